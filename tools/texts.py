@@ -144,13 +144,13 @@ class Derivation:
         around = self.random.randrange(2)
         parts = self.random.sample(AROUND[around], self.random.choice([1, 1, 2]))
         fronts = [token for _ in range(self.random.randint(20, 150)) for token in self.random.choice(parts)]
-        # a `(` that is closed in its front closes nothing behind
+        # a `(` that is closed in its front closes nothing after
         opened = [token for token in fronts if token in CLOSING or token is OPEN]
-        behind = [CLOSE if token is OPEN else CLOSING[token] for token in reversed(opened)]
-        behind = [token for token in behind if not (around and token == ")")]
+        after = [CLOSE if token is OPEN else CLOSING[token] for token in reversed(opened)]
+        after = [token for token in after if not (around and token == ")")]
         if around:
-            return ["fn", "f", "(", ")", "{", *fronts, *self.symbol("Statement"), *behind, "}"]
-        return ["const", "x", "=", *fronts, "(", *self.symbol("Expression"), ")", *behind, ";"]
+            return ["fn", "f", "(", ")", "{", *fronts, *self.symbol("Statement"), *after, "}"]
+        return ["const", "x", "=", *fronts, "(", *self.symbol("Expression"), ")", *after, ";"]
 
 
 def deeper(token):
@@ -209,7 +209,7 @@ def laid_out(random, tokens):
     for left, right in zip(tokens, [*tokens[1:], ";"]):
         parts.append(left)
         if not closes_up(left, right) or random.random() < share:
-            # directly behind `/` a comment would begin too early
+            # directly after `/` a comment would begin too early
             parts.append(" " if left == "/" else random.choice(blanks))
     return "".join(parts + [random.choice(["", "", "\n", "// end", "/* open"])])
 

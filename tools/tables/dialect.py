@@ -218,7 +218,7 @@ class Writer:
 
 
 def symbols_text(order):
-    lines = ["/// A symbol: those of the written grammar, and behind them those that stand for a part of a rule.",
+    lines = ["/// A symbol: those of the written grammar, and after them those that stand for a part of a rule.",
              "#[derive(Clone, Copy)]", "pub enum Symbol {"]
     return lines + [f"    {camel(n)}," for n in order] + ["}", ""]
 

@@ -3,7 +3,7 @@
 
 Run it at the top of the repository: tools/tables/meanings.py
 
-What stands behind the attributes in a factored rule means what does so in the written rule. What
+What stands after the attributes in a factored rule means what does so in the written rule. What
 is made of further symbols means the same of what these mean. The others are in Meaning.antt.
 """
 import re

@@ -87,7 +87,7 @@ EDITS = Form(
     special={"statement": ITEM, "global_declaration": ITEM},
     without=("component", "expressions"),
     untold=("component", "expressions", "statement", "global_declaration", "unit"),
-    hints={"makes_edits": ("writes",), "behind_edits": "m", "optional_edits": "eb",
+    hints={"makes_edits": ("writes",), "after_edits": "m", "optional_edits": "eb",
            "ended_edits": "g", "unended_edits": "g", "filled_edits": "g"},
     writers={"Changes": 2, "ListChanges": 1},
     premises={"EditsWith": AS_KNOWN, "FilledWith": AS_KNOWN})

@@ -5,7 +5,7 @@ Run it at the top of the repository: tools/tables/statement_links.py
 
 StatementPlaces has each kind of statement as one of the choice, StatementCases what each of the
 choice is in the other form. Both follow from the order of the choices, and from which rule has
-which part behind its attributes. A case that does not follow has its lemma in StatementSteps.
+which part after its attributes. A case that does not follow has its lemma in StatementSteps.
 """
 import re
 from pathlib import Path
@@ -55,7 +55,7 @@ def word(text):
 
 
 class Links:
-    """The choices, and the symbol that has each part behind its attributes."""
+    """The choices, and the symbol that has each part after its attributes."""
 
     def __init__(self):
         further = bodies(FACTORED, "further_body")
@@ -63,15 +63,15 @@ class Links:
         self.braced, self.ended = choice(further["braced_part"]), choice(further["ended_part"])
         (_, simple), = antt.Module(SIMPLE).clauses["written_simple"]
         self.simple = choice(" ".join(simple))
-        self.behind = {}
+        self.after = {}
         for symbol, body in bodies(FACTORED, "factored").items():
             found = re.fullmatch(rf"(?:{BEFORE[0]}) statement \((.*)\)", body)
             if found:
-                self.behind[symbol] = found[1]
+                self.after[symbol] = found[1]
 
     def symbol(self, part):
-        """The symbol of the statement that has a part behind its attributes, or none."""
-        of = (it for it in self.written if self.behind.get(self.cited(it)) == part)
+        """The symbol of the statement that has a part after its attributes, or none."""
+        of = (it for it in self.written if self.after.get(self.cited(it)) == part)
         return next((self.cited(it) for it in of), None)
 
     def cited(self, text):
@@ -112,13 +112,13 @@ def statement_in(links):
            f" → {READ} (of statement) v xs ys")
     for index, text in enumerate(links.written):
         alone, symbol = text.removesuffix(" ◃ SymSemicolon"), links.cited(text)
-        derived, part = "((q, f, (ms, d, k)))", links.behind.get(symbol)
+        derived, part = "((q, f, (ms, d, k)))", links.after.get(symbol)
         if part and text == alone:
             derived = "d"
-            proof = (f"behind_in L M v n xs ys e (braced_in L M ({part}) (braced_{word(part)} L M)"
+            proof = (f"after_in L M v n xs ys e (braced_in L M ({part}) (braced_{word(part)} L M)"
                      f" n xs ys (unroll M (factored L) (of {symbol}) n xs ys d))")
         elif part:
-            proof = (f"behind_in L M v n xs ys e (closed_in L M ({part}) (ended_{word(part)} L M)"
+            proof = (f"after_in L M v n xs ys e (closed_in L M ({part}) (ended_{word(part)} L M)"
                      f" n q xs ms ys f (unroll M (factored L) (of {symbol}) q.0 xs ms d) k)")
         elif alone in links.simple:
             at = place(links.simple.index(alone), len(links.simple), "d")
@@ -157,7 +157,7 @@ def ended_out(links):
     yield f"    go : {MEANT} ended_or_break p.1 ks ys → {STATEMENT}"
     cases = [(text, f"inl (w, f, (ms, {place(index, len(links.ended), 'd')}, k))")
              for index, text in enumerate(links.ended)]
-    for text, pattern in [*cases, (links.behind["break_statement"], "inr (w, f, (ms, d, k))")]:
+    for text, pattern in [*cases, (links.after["break_statement"], "inr (w, f, (ms, d, k))")]:
         symbol = links.symbol(text)
         made = "ap (statement p.0) f ∙ q"
         proof = f"ended_{word(text)}_out L M v n xs ys e p.0 w ({made}) ks ms l d k"

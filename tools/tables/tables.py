@@ -1,6 +1,6 @@
 #!/usr/bin/env python3
 """Writes the tables of the factored grammar: what each symbol can begin with, whether it
-can be empty, what could go on behind it, its rank and its height.
+can be empty, what could go on after it, its rank and its height.
 
 Run it at the top of the repository:
 
@@ -422,7 +422,7 @@ class Writer:
         self.sets("firsts", "begin", "the classes that begin", tables.first)
         self.lines += ["", "-- the symbols that can be empty", "abbrev pub empties : FactoredSymbol → Bool"]
         self.clauses("empties", {n: str(tables.empty[n]).lower() for n in self.order})
-        self.sets("mores", "behind", "the classes that could go on behind", tables.more)
+        self.sets("mores", "after", "the classes that could go on after", tables.more)
         self.numbers("ranks", "how many symbols can follow one another before a token is taken", tables.rank)
         self.numbers("heights", "how many symbols stand within one another at least", tables.height)
         limit = max(map(tables.all_ranks, tables.table.values()))

@@ -81,7 +81,7 @@ class Plain:
                 for maker in makers.split()
             }
 
-    def behind_attributes(self, name):
+    def after_attributes(self, name):
         """The type that is after the attributes in another, if that is an abbreviation for it."""
         found = re.search(rf"^{name} = Attributed (\w+)$", self.text, re.M)
         return found and found[1]
@@ -138,7 +138,7 @@ def enums(table, crate, at):
 def tested(enum, variant):
     """What says of a plain tree whether it is of a variant."""
     name, plain = f"is_{snake(variant)}", enum.view.plain
-    inner = enum.plain.behind_attributes(plain)
+    inner = enum.plain.after_attributes(plain)
     pattern = enum.plain.pattern(inner or plain, makers_of(enum.name, variant))
     test = f"{name}_node" if inner else name
     mark = "abbrev" if inner else "abbrev pub"

@@ -186,7 +186,7 @@ def lemma(pieces, function):
 
 
 def list_lemmas(pieces, function):
-    """The lemmas that pieces print a list of texts, four spaces in and each behind a line end."""
+    """The lemmas that pieces print a list of texts, four spaces in and each after a line end."""
     stem, kind = pieces.stems[function], pieces.printed.types[function]
     first, further = f"first_{stem}", f"further_{stem}"
     texts = (f'(indented (joined (codes "\\n") ({function} s)))',

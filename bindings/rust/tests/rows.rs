@@ -248,7 +248,7 @@ fn other_texts_are_no_form() {
     assert_eq!(from_form::<Statement>(&lists), Err(FormError::Malformed));
 }
 
-/// Characters that stand behind a `\` in a form are read back.
+/// Characters that stand after a `\` in a form are read back.
 #[test]
 fn texts_have_a_form() {
     let text = "a\"b\\c\u{1}é".to_owned();

@@ -1,4 +1,4 @@
--- What comes behind a reading.
+-- What comes after a reading.
 use Rattle.std.proofs.Common.{◌≡◌, Bool, true, false, cond, refl, ◌∙◌}
 use Rattle.grammar.specs.States.{State, Read, Read.done, Read.stop, ◌>>=◌}
 
@@ -17,7 +17,7 @@ pub bind_cond : {A B : Type 0} (b : Bool) (x y : Read A) (f : A → State → Re
 bind_cond true x y f = refl
 bind_cond false x y f = refl
 
--- two values, and what comes behind both
+-- two values, and what comes after both
 pub pair_goes_on : {A B C : Type 0} (m : Read A) (r : State → Read B) (f : A × B → State → Read C)
     → ((m >>= λ a s. r s >>= λ b s'. done (a, b) s') >>= f) ≡ (m >>= λ a s. r s >>= λ b s'. f (a, b) s')
 pair_goes_on m r f = bind_associates m _ f ∙ bind_alike m _ _ (λ a s is. bind_associates (r s) _ f)

@@ -55,7 +55,7 @@ data Symbol : Type 0 where
   more_names : Symbol
   name : Symbol
 
--- a declaration, with its names and where it stands
+-- a declaration, with its names and where it is
 record Declaration : Type 0 where
   names : List Token
   span : Span
@@ -136,7 +136,7 @@ passes = record {
   ];
 }
 
--- a reserved word is a fault wherever it stands
+-- a reserved word is a fault wherever it is
 abbrev apart : Symbol → List ℕ
 apart n = []
 
@@ -169,7 +169,7 @@ tested = record {
           | name ↦ inr (refl, refl)
         ]) names_start)
   ];
-  behind = [];
+  following = [];
   within = λ n. refl;
   keeps = elim [ unit ↦ refl | declaration ↦ refl | names ↦ refl | more_names ↦ refl | name ↦ refl ];
   no_token = refl;
@@ -203,7 +203,7 @@ units_are_answered : (wording : Wording) (ts : List Token) (ending : Ending) →
     wording unit ts ending (answer wording ending (reads tables body 2 unit (start_state ts)))
 units_are_answered wording ts ending = answers tables body 2 apart tested wording unit ts ending
 
--- the names behind those that were read so far
+-- the names after those that were read so far
 abbrev names_from : List Token → State → Read (List Token)
 names_from l s = reads tables body 2 names s >>= λ m s'. done (l ++ m) s'
 

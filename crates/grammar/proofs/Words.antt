@@ -19,7 +19,7 @@ builds height h (checked f g) = builds height h g
 builds height h (symbol n) = ltb (height n) h
 builds height h (left_chain f g i) = builds height h g
 
--- what stands before a list
+-- what is before a list
 abbrev Before : {A : Type 0} → (A → List Token → List Token → Type 0) → List Token → Type 0
 Before {A} P ys = (xs : List Token) × (v : A) × P v xs ys
 

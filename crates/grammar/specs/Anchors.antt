@@ -1,4 +1,4 @@
--- Tests by which a checked symbol stands apart: certain classes are taken at its head alone.
+-- Tests by which a checked symbol is apart: certain classes are taken at its head alone.
 use Rattle.std.specs.Prelude.{◌≡◌, ℕ, Bool, true, false, cond, not, ◌&&◌, ◌||◌, List, ◌⊎◌}
 use Rattle.grammar.specs.Grammar.{Grammar, Grammar.empty, Grammar.token, Grammar.sequence, Grammar.choice, Grammar.mapped, Grammar.node, Grammar.checked, Grammar.symbol, Grammar.left_chain}
 use Rattle.grammar.specs.Tables.{disjoint, subset}
@@ -35,8 +35,8 @@ abbrev pub IsAnchored : {N : Type 0} {Value : N → Type 0} (body : (n : N) → 
 IsAnchored {N} body c b n = (m : N)
     → (takes_none c b false (body m) ≡ true) ⊎ ((n ≡ m) × (takes_none c b true (body m) ≡ true))
 
--- no check stands in a part, and no symbol directly after a token of the classes b; if d, the part
--- stands directly after one
+-- no check is in a part, and no symbol directly after a token of the classes b; if d, the part
+-- is directly after one
 abbrev pub keeps_apart : {N : Type 0} {Value : N → Type 0} → List ℕ → Bool → {A : Type 0} → Grammar N Value A → Bool
 keeps_apart b d (empty a) = not d
 keeps_apart b d (token s) = disjoint s b
@@ -49,7 +49,7 @@ keeps_apart b d (checked f g) = false
 keeps_apart b d (symbol n) = not d
 keeps_apart b d (left_chain f g h) = keeps_apart b d g && keeps_apart b false h
 
--- the same of a right side, where a check may stand at the head
+-- the same of a right side, where a check may be at the head
 abbrev pub keeps_body_apart : {N : Type 0} {Value : N → Type 0} → List ℕ → {A : Type 0} → Grammar N Value A → Bool
 keeps_body_apart b (checked f g) = keeps_apart b false g
 keeps_body_apart b g = keeps_apart b false g

@@ -1,4 +1,4 @@
--- How a list of tokens ended, and what is answered of it.
+-- How a list of tokens ended, and what is returned for it.
 use Rattle.std.specs.Prelude.{ℕ, List, [], ◌∷◌}
 use Rattle.grammar.specs.Tokens.{Token, Fault}
 
@@ -18,7 +18,7 @@ pub data Answer (A : Type 0) : Type 0 where
   denied : Fault → Answer A
 
 -- how the faults are told that no check finds: a token that nothing goes on with, and a token
--- missing behind the place where the last one ended
+-- missing after the place where the last one ended
 pub record Wording : Type 0 where
   pub unexpected : Token → Fault
   pub missing : ℕ → Fault

@@ -16,7 +16,7 @@ head_check (node f g) v s = None
 head_check (symbol n) v s = None
 head_check (left_chain f g h) v s = None
 
--- a part of a symbol whose check says x, from xs to the list ys behind it
+-- a part of a symbol whose check says x, from xs to the list ys after it
 abbrev pub IsFaulty : {N : Type 0} {Value : N → Type 0} (body : (n : N) → Grammar N Value (Value n))
     → N → Fault → List Token → List Token → Type 0
 IsFaulty {Value} body n x xs ys = (v : Value n) × Part unchecked body n v xs ys
@@ -28,8 +28,8 @@ abbrev pub IsEnded : {N : Type 0} {Value : N → Type 0} (body : (n : N) → Gra
 IsEnded body n xs ys = (t : Token) (zs : List Token) → ys ≡ t ∷ zs
     → IsViable body n (tokens_between xs ys ++ (t ∷ [])) → ⊥
 
--- a fault x of a list ts, with ys behind its last token: a faulty part of a symbol that goes no
--- further, and does not stand directly after a token of the classes apart, none of which is 0
+-- a fault x of a list ts, with ys after its last token: a faulty part of a symbol that goes no
+-- further, and is not directly after a token of the classes apart, none of which is 0
 pub record FaultIn {N : Type 0} {Value : N → Type 0} (body : (n : N) → Grammar N Value (Value n))
     (apart : N → List ℕ) (ts : List Token) (x : Fault) (ys : List Token) : Type 0 where
   pub symbol_of : N
@@ -40,12 +40,12 @@ pub record FaultIn {N : Type 0} {Value : N → Type 0} (body : (n : N) → Gramm
   pub ended : IsEnded body symbol_of from ys
   pub faulty : IsFaulty body symbol_of x from ys
 
--- no fault of ts has so many tokens behind it, or more
+-- no fault of ts has a number of tokens after it, or more
 abbrev pub HasNoFaultBefore : {N : Type 0} {Value : N → Type 0}
     (body : (n : N) → Grammar N Value (Value n)) (apart : N → List ℕ) → List Token → ℕ → Type 0
 HasNoFaultBefore body apart ts k = (x : Fault) (ys : List Token) → FaultIn body apart ts x ys → k ≤ length ys → ⊥
 
--- a fault x that ends, with us behind it, in tokens that begin a sentence, and no fault ends before
+-- a fault x that ends, with us after it, in tokens that begin a sentence, and no fault ends before
 -- it
 abbrev pub IsFirstFault : {N : Type 0} {Value : N → Type 0} (body : (n : N) → Grammar N Value (Value n))
     (apart : N → List ℕ) (n : N) → List Token → Fault → List Token → Type 0

@@ -36,7 +36,7 @@ pub data Chain {A B : Type 0} (f : A → B → Span → A) (P : A → List Token
   more : (a : A) (b : B) (ys zs : List Token) → Chain f P Q xs a ys → Q b ys zs
       → Chain f P Q xs (f a b (span_between xs zs)) zs
 
--- what a right side derives from xs to the list ys behind it, where D is what the symbols derive
+-- what a right side derives from xs to the list ys after it, where D is what the symbols derive
 abbrev pub Means : {N : Type 0} {Value : N → Type 0} (M : Mode) (D : (n : N) → Value n → List Token
     → List Token → Type 0) {A : Type 0} → Grammar N Value A → A → List Token → List Token → Type 0
 Means M D (empty a) v xs ys = (a ≡ v) × (xs ≡ ys)
@@ -49,13 +49,13 @@ Means M D (checked f g) v xs ys = (found M (f v (span_between xs ys)) ≡ None) 
 Means M D (symbol n) v xs ys = D n v xs ys
 Means M D (left_chain f g h) v xs ys = Chain f (Means M D g) (Means M D h) xs v ys
 
--- what a symbol derives with so many symbols within one another
+-- what a symbol derives with a number of symbols within one another
 abbrev pub Within : {N : Type 0} {Value : N → Type 0} (M : Mode) (body : (n : N) → Grammar N Value (Value n))
     → ℕ → (n : N) → Value n → List Token → List Token → Type 0
 Within M body zero n v xs ys = ⊥
 Within M body (suc k) n v xs ys = Means M (Within M body k) (body n) v xs ys
 
--- what a symbol derives from xs to the list ys behind it
+-- what a symbol derives from xs to the list ys after it
 abbrev pub Part : {N : Type 0} {Value : N → Type 0} (M : Mode) (body : (n : N) → Grammar N Value (Value n))
     → (n : N) → Value n → List Token → List Token → Type 0
 Part M body n v xs ys = (k : ℕ) × Within M body k n v xs ys

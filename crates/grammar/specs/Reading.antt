@@ -13,7 +13,7 @@ pub data Outcome (A : Type 0) : Type 0 where
   bad : Fault → List Token → Outcome A
   out : Outcome A
 
--- what comes behind a value
+-- what comes after a value
 abbrev pub bind : {A B : Type 0} → Outcome A → (A → List Token → Outcome B) → Outcome B
 bind (ok a ts) f = f a ts
 bind (stuck ts) f = stuck ts
@@ -59,7 +59,7 @@ run T M rec (symbol n) ts = rec n ts
 run T M rec (left_chain f g h) ts = bind (run T M rec g ts)
     (λ a us. loop f (first T h) (run T M rec h) ts (length us) a us)
 
--- the reader, with fuel for so many symbols within one another
+-- the reader, with fuel for a number of symbols within one another
 abbrev pub read : {N : Type 0} {Value : N → Type 0} (T : Tables N) (M : Mode)
     (body : (n : N) → Grammar N Value (Value n)) → ℕ → (n : N) → List Token → Outcome (Value n)
 read T M body zero n ts = out

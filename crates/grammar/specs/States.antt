@@ -24,24 +24,24 @@ pub data Stop : Type 0 where
   faulty : Fault → Stop
   never : Stop
 
--- a value and the state behind it, or why there is none
+-- a value and the state after it, or why there is none
 pub data Read (A : Type 0) : Type 0 where
   done : A → State → Read A
   stop : Stop → Read A
 
 infixl 10 ◌>>=◌
--- what comes behind a value
+-- what comes after a value
 abbrev pub ◌>>=◌ : {A B : Type 0} → Read A → (A → State → Read B) → Read B
 (done a s) >>= f = f a s
 (stop e) >>= f = stop e
 
--- what stands first of the tokens that are left is refused, where the last one that was taken ended
+-- what is first of the tokens that are left is refused, where the last one that was taken ended
 -- at a place
 abbrev pub refused_at : {A : Type 0} → ℕ → List Token → Read A
 refused_at e [] = stop (ended e)
 refused_at e (t ∷ ts) = stop (unexpected t)
 
--- what stands next is refused
+-- what is next is refused
 abbrev pub refused : {A : Type 0} → State → Read A
 refused s = refused_at s.end s.rest
 
@@ -74,18 +74,18 @@ abbrev pub head_of : List Token → Token
 head_of [] = record { class = 0; payload = nothing; start = 0; end = 0 }
 head_of (t ∷ ts) = t
 
--- the state behind the first token of a list
-abbrev pub behind : ℕ → List Token → State
-behind e [] = record { end = e; rest = [] }
-behind e (t ∷ ts) = record { end = t.end; rest = ts }
+-- the state after the first token of a list
+abbrev pub following : ℕ → List Token → State
+following e [] = record { end = e; rest = [] }
+following e (t ∷ ts) = record { end = t.end; rest = ts }
 
 -- the next token
 unfoldable pub first_of : State → Token
 first_of s = head_of s.rest
 
--- the state behind the next token
+-- the state after the next token
 unfoldable pub after : State → State
-after s = behind s.end s.rest
+after s = following s.end s.rest
 
 -- the next token, which has to be of this class
 unfoldable pub take : ℕ → State → Read Token
@@ -106,7 +106,7 @@ judged (Some x) a s = stop (faulty x)
 abbrev pub span_from : ℕ → State → Span
 span_from start s = record { start = start; end = s.end }
 
--- so many further items of a left-recursive rule at most, each begun by one of the classes
+-- a number of further items of a left-recursive rule at most, each begun by one of the classes
 abbrev pub turns_in : {A B : Type 0} → ℕ → (A → B → Span → A) → List ℕ → (State → Read B) → ℕ → A → State → Read A
 turns_in {A} zero f c r start a s = elim (is_any c s) as (λ b. Read A) [ true ↦ stop never | false ↦ done a s ]
 turns_in {A} (suc k) f c r start a s = elim (is_any c s) as (λ b. Read A) [
@@ -152,7 +152,7 @@ abbrev pub at_end : {A : Type 0} → Ending → Answer A → Answer A
 at_end finished a = a
 at_end (carried x) a = denied x
 
--- a value, where nothing is left behind it
+-- a value, where nothing is left after it
 abbrev pub whole_answer : {A : Type 0} → Wording → Ending → A → List Token → Answer A
 whole_answer wording ending a [] = at_end ending (accepted a)
 whole_answer wording ending a (t ∷ ts) = denied (wording.unexpected t)

@@ -48,7 +48,7 @@ first T (checked f g) = first T g
 first T (symbol n) = T.first n
 first T (left_chain f g h) = first T g ++ cond (nullable T g) (first T h) []
 
--- the classes with which a part could go on behind its end
+-- the classes with which a part could go on after its end
 abbrev pub continuations : {N : Type 0} {Value : N → Type 0} (T : Tables N) {A : Type 0} → Grammar N Value A → List ℕ
 continuations T (empty a) = []
 continuations T (token s) = []

@@ -16,11 +16,11 @@ other e not (inl is) = absurd (not (ap (λ (x : Error). x.error) is))
 other e not (inr a) = a
 
 -- a text is refused where an error of it is told
-pub refused_by : (IsNamed : List ℕ → Fault → Type 0) (source text before room : List ℕ) (a : Answer) (e : Error)
+pub refused_by : (IsNamed : List ℕ → Fault → Type 0) (source text before buffer : List ℕ) (a : Answer) (e : Error)
     → source ≡ text → IsOutOfMemory e ⊎ IsNamed (chars source) (fault_view e)
     → StandsWithin e.span (length source)
-    → ¬ (e.error ≡ kinds.OutOfMemory) → TellsError e before room a → Refuses IsNamed text before room a
-refused_by IsNamed source text before room a e same named placed not told = (
+    → ¬ (e.error ≡ kinds.OutOfMemory) → TellsError e before buffer a → Refuses IsNamed text before buffer a
+refused_by IsNamed source text before buffer a e same named placed not told = (
   e,
   subst (λ s. IsNamed (chars s) (fault_view e)) same (other e not named),
   subst (λ s. StandsWithin e.span (length s)) same placed,

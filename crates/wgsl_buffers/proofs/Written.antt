@@ -1,4 +1,4 @@
--- What a room holds, and what when one more item is written to it.
+-- What a buffer holds, and what when one more item is written to it.
 use Rattle.std.proofs.Common.{◌≡◌, ℕ, suc, ◌+◌, ◌-◌, ◌^◌, ◌<◌, ◌≤◌, min, List, [], ◌∷◌, ◌++◌, length, take, drop, set, map, Option, Some, None, refl, sym, ap, subst, ◌∙◌, arith}
 use Rattle.std.proofs.lemmas.List.{take_all, take_more_set, map-append, append_assoc, append-nil, length-append, length-map, length-set, take-append-le}
 use Rattle.std.specs.Str.{IsUtf8, chars}
@@ -16,95 +16,95 @@ use Rattle.wgsl_buffers.specs.declared.tokens.PlacedKind.{PlacedKind}
 use Rattle.wgsl_buffers.specs.Items.{count_of, HoldItems, kind_and_place, item_of_token, token_items, start_and_end, list_at, lists_before, ArePlaces}
 
 -- these items are counted, and as many as fit are written
-pub record Stored {X Y : Type 0} (view : X → Y) (items : List Y) (room : List X) (n : ℕ) : Type 0 where
+pub record Stored {X Y : Type 0} (view : X → Y) (items : List Y) (buffer : List X) (n : ℕ) : Type 0 where
   pub counted : n ≡ count_of (length items)
-  pub held : HoldItems view items room
+  pub held : HoldItems view items buffer
 
 -- at first there is none
-pub none_stored : {X Y : Type 0} (view : X → Y) (room : List X) → Stored view [] room 0
-none_stored view room = record { counted = refl; held = sym (take_all (length room) [] (omega arith)) }
+pub none_stored : {X Y : Type 0} (view : X → Y) (buffer : List X) → Stored view [] buffer 0
+none_stored view buffer = record { counted = refl; held = sym (take_all (length buffer) [] (omega arith)) }
 
--- where there is room for one more, it is written
-pub one_more : {X Y : Type 0} (view : X → Y) (items : List Y) (room : List X) (n : ℕ) (x : X)
-    → length room < 2 ^ 63 → n < length room → Stored view items room n
-    → Stored view (items ++ (view x ∷ [])) (set room n x) (min (n + 1) (2 ^ 64 - 1))
-one_more view items room n x bound fits s =
+-- where there is buffer for one more, it is written
+pub one_more : {X Y : Type 0} (view : X → Y) (items : List Y) (buffer : List X) (n : ℕ) (x : X)
+    → length buffer < 2 ^ 63 → n < length buffer → Stored view items buffer n
+    → Stored view (items ++ (view x ∷ [])) (set buffer n x) (min (n + 1) (2 ^ 64 - 1))
+one_more view items buffer n x bound fits s =
     let at_end : n ≡ length items = omega (arith, s.counted, bound, fits) in
     let longer : length (items ++ (view x ∷ [])) ≡ n + 1 = length-append items (view x ∷ [])
     ∙ ap (λ k. k + 1) (sym at_end) in
     record {
       counted = omega (arith, longer, bound, fits);
-      held = ap (λ k. map view (take k (set room n x))) longer
-          ∙ ap (map view) (take_more_set room n x fits) ∙ map-append view (take n room) (x ∷ [])
-          ∙ ap (λ ys. ys ++ (view x ∷ [])) (ap (λ k. map view (take k room)) at_end ∙ s.held
-          ∙ take_all (length room) items (omega (arith, at_end, fits)))
-          ∙ sym (take_all (length (set room n x)) (items ++ (view x ∷ []))
-          (omega (arith, longer, length-set room n x, fits)));
+      held = ap (λ k. map view (take k (set buffer n x))) longer
+          ∙ ap (map view) (take_more_set buffer n x fits) ∙ map-append view (take n buffer) (x ∷ [])
+          ∙ ap (λ ys. ys ++ (view x ∷ [])) (ap (λ k. map view (take k buffer)) at_end ∙ s.held
+          ∙ take_all (length buffer) items (omega (arith, at_end, fits)))
+          ∙ sym (take_all (length (set buffer n x)) (items ++ (view x ∷ []))
+          (omega (arith, longer, length-set buffer n x, fits)));
     }
 
 -- where there is none, it is counted alone
-pub one_beyond : {X Y : Type 0} (view : X → Y) (items : List Y) (room : List X) (n : ℕ) (y : Y)
-    → length room < 2 ^ 63 → length room ≤ n → Stored view items room n
-    → Stored view (items ++ (y ∷ [])) room (min (n + 1) (2 ^ 64 - 1))
-one_beyond view items room n y bound full s =
+pub one_beyond : {X Y : Type 0} (view : X → Y) (items : List Y) (buffer : List X) (n : ℕ) (y : Y)
+    → length buffer < 2 ^ 63 → length buffer ≤ n → Stored view items buffer n
+    → Stored view (items ++ (y ∷ [])) buffer (min (n + 1) (2 ^ 64 - 1))
+one_beyond view items buffer n y bound full s =
     let longer : length (items ++ (y ∷ [])) ≡ length items + 1 = length-append items (y ∷ []) in
-    let enough : length room ≤ length items = omega (arith, s.counted, full, bound) in
+    let enough : length buffer ≤ length items = omega (arith, s.counted, full, bound) in
     record {
       counted = omega (arith, longer, s.counted);
-      held = ap (map view) (take_all (length (items ++ (y ∷ []))) room (omega (arith, longer, enough))
-          ∙ sym (take_all (length items) room enough)) ∙ s.held
-          ∙ sym (take-append-le (length room) items (y ∷ []) enough);
+      held = ap (map view) (take_all (length (items ++ (y ∷ []))) buffer (omega (arith, longer, enough))
+          ∙ sym (take_all (length items) buffer enough)) ∙ s.held
+          ∙ sym (take-append-le (length buffer) items (y ∷ []) enough);
     }
 
 -- some tokens are stored, and with those that are left they are all
-pub record Written (all left : List Token) (room : List PlacedKind) (n : ℕ) : Type 0 where
+pub record Written (all left : List Token) (buffer : List PlacedKind) (n : ℕ) : Type 0 where
   pub done : List Token
   pub whole : all ≡ done ++ left
-  pub stored : Stored kind_and_place (token_items done) room n
+  pub stored : Stored kind_and_place (token_items done) buffer n
 
 -- at first none is stored
-pub none_written : (all : List Token) (room : List PlacedKind) → Written all all room 0
-none_written all room = record { done = []; whole = refl; stored = none_stored kind_and_place room }
+pub none_written : (all : List Token) (buffer : List PlacedKind) → Written all all buffer 0
+none_written all buffer = record { done = []; whole = refl; stored = none_stored kind_and_place buffer }
 
 -- one more token is stored
-pub token_more : (all left : List Token) (room : List PlacedKind) (n : ℕ) (kind : TokenKind) (span : Span)
-    → StartWithKind left kind → BeginAt left span → length room < 2 ^ 63 → n < length room
-    → Written all left room n → Written all (drop 1 left) (set room n
+pub token_more : (all left : List Token) (buffer : List PlacedKind) (n : ℕ) (kind : TokenKind) (span : Span)
+    → StartWithKind left kind → BeginAt left span → length buffer < 2 ^ 63 → n < length buffer
+    → Written all left buffer n → Written all (drop 1 left) (set buffer n
     (record { kind = class_of_kind kind; start = span.start; end = span.end })) (min (n + 1) (2 ^ 64 - 1))
-token_more all [] room n kind span first at bound fits w = absurd first
-token_more all (t ∷ ts) room n kind span first at bound fits w =
+token_more all [] buffer n kind span first at bound fits w = absurd first
+token_more all (t ∷ ts) buffer n kind span first at bound fits w =
     let v : PlacedKind = record { kind = class_of_kind kind; start = span.start; end = span.end } in
     let same : kind_and_place v ≡ item_of_token t = sym (λ i. (first i, at.0 i, at.1 i)) in
     record {
       done = w.done ++ (t ∷ []);
       whole = w.whole ∙ sym (append_assoc w.done (t ∷ []) ts);
-      stored = subst (λ items. Stored kind_and_place items (set room n v) (min (n + 1) (2 ^ 64 - 1)))
+      stored = subst (λ items. Stored kind_and_place items (set buffer n v) (min (n + 1) (2 ^ 64 - 1)))
           (ap (λ x. token_items w.done ++ (x ∷ [])) same ∙ sym (map-append item_of_token w.done (t ∷ [])))
-          (one_more kind_and_place (token_items w.done) room n v bound fits w.stored);
+          (one_more kind_and_place (token_items w.done) buffer n v bound fits w.stored);
     }
 
 -- one more token is counted
-pub token_beyond : (all left : List Token) (room : List PlacedKind) (n : ℕ) (span : Span)
-    → BeginAt left span → length room < 2 ^ 63 → length room ≤ n → Written all left room n
-    → Written all (drop 1 left) room (min (n + 1) (2 ^ 64 - 1))
-token_beyond all [] room n span at bound full w = absurd at
-token_beyond all (t ∷ ts) room n span at bound full w = record {
+pub token_beyond : (all left : List Token) (buffer : List PlacedKind) (n : ℕ) (span : Span)
+    → BeginAt left span → length buffer < 2 ^ 63 → length buffer ≤ n → Written all left buffer n
+    → Written all (drop 1 left) buffer (min (n + 1) (2 ^ 64 - 1))
+token_beyond all [] buffer n span at bound full w = absurd at
+token_beyond all (t ∷ ts) buffer n span at bound full w = record {
   done = w.done ++ (t ∷ []);
   whole = w.whole ∙ sym (append_assoc w.done (t ∷ []) ts);
-  stored = subst (λ items. Stored kind_and_place items room (min (n + 1) (2 ^ 64 - 1)))
+  stored = subst (λ items. Stored kind_and_place items buffer (min (n + 1) (2 ^ 64 - 1)))
       (sym (map-append item_of_token w.done (t ∷ [])))
-      (one_beyond kind_and_place (token_items w.done) room n (item_of_token t) bound full w.stored);
+      (one_beyond kind_and_place (token_items w.done) buffer n (item_of_token t) bound full w.stored);
 }
 
 -- where none is left, all are stored
-pub all_written : (all left : List Token) (room : List PlacedKind) (n : ℕ) → left ≡ []
-    → Written all left room n
-    → (n ≡ count_of (length all)) × HoldItems kind_and_place (token_items all) room
-all_written all left room n none w =
+pub all_written : (all left : List Token) (buffer : List PlacedKind) (n : ℕ) → left ≡ []
+    → Written all left buffer n
+    → (n ≡ count_of (length all)) × HoldItems kind_and_place (token_items all) buffer
+all_written all left buffer n none w =
     let all_done : w.done ≡ all = sym (w.whole ∙ ap (λ ts. w.done ++ ts) none ∙ append-nil w.done) in (
       w.stored.counted ∙ ap count_of (length-map w.done item_of_token)
           ∙ ap (λ ts. count_of (length ts)) all_done,
-      subst (λ ts. HoldItems kind_and_place (token_items ts) room) all_done w.stored.held,
+      subst (λ ts. HoldItems kind_and_place (token_items ts) buffer) all_done w.stored.held,
     )
 
 -- what is listed before the next place
@@ -115,32 +115,32 @@ list_next spans start found told =
     ap (λ x. lists_before spans start ++ list_at start x) (sym told) ∙ ap (lists_before spans) on
 
 -- one more list is stored
-pub list_more : (spans : List Span) (start end : ℕ) (room : List Place) (n : ℕ)
-    → end_from spans start ≡ Some end → length room < 2 ^ 63 → n < length room
-    → Stored start_and_end (lists_before spans start) room n
+pub list_more : (spans : List Span) (start end : ℕ) (buffer : List Place) (n : ℕ)
+    → end_from spans start ≡ Some end → length buffer < 2 ^ 63 → n < length buffer
+    → Stored start_and_end (lists_before spans start) buffer n
     → Stored start_and_end (lists_before spans (start + 1))
-    (set room n (record { start = start; end = end })) (min (n + 1) (2 ^ 64 - 1))
-list_more spans start end room n told bound fits s =
+    (set buffer n (record { start = start; end = end })) (min (n + 1) (2 ^ 64 - 1))
+list_more spans start end buffer n told bound fits s =
     let v : Place = record { start = start; end = end } in
-    subst (λ items. Stored start_and_end items (set room n v) (min (n + 1) (2 ^ 64 - 1)))
+    subst (λ items. Stored start_and_end items (set buffer n v) (min (n + 1) (2 ^ 64 - 1)))
     (list_next spans start (Some end) told)
-    (one_more start_and_end (lists_before spans start) room n v bound fits s)
+    (one_more start_and_end (lists_before spans start) buffer n v bound fits s)
 
 -- one more list is counted
-pub list_beyond : (spans : List Span) (start end : ℕ) (room : List Place) (n : ℕ)
-    → end_from spans start ≡ Some end → length room < 2 ^ 63 → length room ≤ n
-    → Stored start_and_end (lists_before spans start) room n
-    → Stored start_and_end (lists_before spans (start + 1)) room (min (n + 1) (2 ^ 64 - 1))
-list_beyond spans start end room n told bound full s =
-    subst (λ items. Stored start_and_end items room (min (n + 1) (2 ^ 64 - 1))) (list_next spans start (Some end) told)
-    (one_beyond start_and_end (lists_before spans start) room n (start, end) bound full s)
+pub list_beyond : (spans : List Span) (start end : ℕ) (buffer : List Place) (n : ℕ)
+    → end_from spans start ≡ Some end → length buffer < 2 ^ 63 → length buffer ≤ n
+    → Stored start_and_end (lists_before spans start) buffer n
+    → Stored start_and_end (lists_before spans (start + 1)) buffer (min (n + 1) (2 ^ 64 - 1))
+list_beyond spans start end buffer n told bound full s =
+    subst (λ items. Stored start_and_end items buffer (min (n + 1) (2 ^ 64 - 1))) (list_next spans start (Some end) told)
+    (one_beyond start_and_end (lists_before spans start) buffer n (start, end) bound full s)
 
 -- no list starts at a place
-pub list_none : (spans : List Span) (start : ℕ) (room : List Place) (n : ℕ)
-    → end_from spans start ≡ None → Stored start_and_end (lists_before spans start) room n
-    → Stored start_and_end (lists_before spans (start + 1)) room n
-list_none spans start room n told s =
-    subst (λ items. Stored start_and_end items room n)
+pub list_none : (spans : List Span) (start : ℕ) (buffer : List Place) (n : ℕ)
+    → end_from spans start ≡ None → Stored start_and_end (lists_before spans start) buffer n
+    → Stored start_and_end (lists_before spans (start + 1)) buffer n
+list_none spans start buffer n told s =
+    subst (λ items. Stored start_and_end items buffer n)
     (sym (append-nil (lists_before spans start)) ∙ list_next spans start None told) s
 
 -- the places that are listed before the end of a text are those of all its lists

@@ -9,7 +9,7 @@ use Rattle.wgsl_error.specs.Printing.{print_error_kind}
 use Rattle.wgsl_read_cursor.specs.Places.{StandsWithin}
 use Rattle.wgsl_buffers.specs.declared.answer.Answer.{Answer}
 
--- so many bytes or items, and nothing else
+-- a number of bytes or items, and nothing else
 abbrev pub counted : ℕ → Answer
 counted n = record { size = n; start = 0; end = 0; kind = 0; expected = 0 }
 
@@ -17,13 +17,13 @@ counted n = record { size = n; start = 0; end = 0; kind = 0; expected = 0 }
 abbrev pub at_place : ℕ → Answer
 at_place p = record { size = 0; start = p; end = p; kind = 0; expected = 0 }
 
--- the text stands at the front of the room
+-- the text is at the front of the buffer
 abbrev pub Holds : List ℕ → List ℕ → Answer → Type 0
-Holds text room a = (a ≡ counted (length text)) × (take (length text) room ≡ text)
+Holds text buffer a = (a ≡ counted (length text)) × (take (length text) buffer ≡ text)
 
--- the room is too small for the text, and stays as it was
+-- the buffer is too small for the text, and stays as it was
 abbrev pub Lacks : List ℕ → List ℕ → List ℕ → Answer → Type 0
-Lacks text before room a = (a ≡ counted (length text)) × (length before < length text) × (room ≡ before)
+Lacks text before buffer a = (a ≡ counted (length text)) × (length before < length text) × (buffer ≡ before)
 
 -- the bytes are no text, and the answer says where they stop being one
 abbrev pub IsNoText : List ℕ → Answer → Type 0
@@ -37,10 +37,10 @@ nul_terminated text = text ++ (0 ∷ [])
 abbrev pub fault_texts : ErrorKind → List ℕ
 fault_texts kind = nul_terminated (print_error_kind kind) ++ flat_map nul_terminated (expected_texts kind)
 
--- the answer has the kind and the place of the error, and how many bytes its texts have; they stand
--- at the front of the room if they fit, and else it stays as it was
+-- the answer has the kind and the place of the error, and how many bytes its texts have; they are
+-- at the front of the buffer if they fit, and else it stays as it was
 abbrev pub TellsError : Error → List ℕ → List ℕ → Answer → Type 0
-TellsError e before room a =
+TellsError e before buffer a =
     let texts = fault_texts e.error in
     (a ≡ record {
       size = length texts;
@@ -49,18 +49,18 @@ TellsError e before room a =
       kind = kind_number e.error;
       expected = length (expected_texts e.error);
     })
-    × ((take (length texts) room ≡ texts) ⊎ ((length before < length texts) × (room ≡ before)))
+    × ((take (length texts) buffer ≡ texts) ⊎ ((length before < length texts) × (buffer ≡ before)))
 
--- the text is refused: the answer tells an error that is a fault of it, which stands in the text or
+-- the text is refused: the answer tells an error that is a fault of it, which is in the text or
 -- ends one byte past it
 abbrev pub Refuses : (List ℕ → Fault → Type 0) → List ℕ → List ℕ → List ℕ → Answer → Type 0
-Refuses IsNamed text before room a = (e : Error) × IsNamed (chars text) (fault_view e)
-    × StandsWithin e.span (length text) × TellsError e before room a
+Refuses IsNamed text before buffer a = (e : Error) × IsNamed (chars text) (fault_view e)
+    × StandsWithin e.span (length text) × TellsError e before buffer a
 
 -- the text is not the form of a node: the answer has the place where that shows and the kind 10,
 -- and
--- the message is at the front of the room if it fits, and else the room stays as it was
+-- the message is at the front of the buffer if it fits, and else the buffer stays as it was
 abbrev pub RefusesForm : List ℕ → List ℕ → Answer → Type 0
-RefusesForm before room a = (message : List ℕ) × (place : ℕ)
+RefusesForm before buffer a = (message : List ℕ) × (place : ℕ)
     × (a ≡ record { size = length message; start = place; end = place; kind = 10; expected = 0 })
-    × ((take (length message) room ≡ message) ⊎ ((length before < length message) × (room ≡ before)))
+    × ((take (length message) buffer ≡ message) ⊎ ((length before < length message) × (buffer ≡ before)))

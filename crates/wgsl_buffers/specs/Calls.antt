@@ -1,4 +1,4 @@
--- What each call promises of a text, of the room before it and after it, of its answer and of its
+-- What each call promises of a text, of the buffer before it and after it, of its answer and of its
 -- status.
 use Rattle.std.specs.Prelude.{◌≡◌, ◌⊎◌, ◌≤◌, ◌<◌, ℕ, List, chars, length}
 use Rattle.std.specs.Str.{IsUtf8}
@@ -31,77 +31,77 @@ pub record Reads (text : List ℕ) (answer : Answer) (result : ℕ) : Type 0 whe
   pub valid : ¬ (result ≡ 2) → IsUtf8 text
 
 -- the text that a module is printed as, or the fault that is named
-pub record Formats (text before room : List ℕ) (answer : Answer) (result : ℕ) : Type 0 where
+pub record Formats (text before buffer : List ℕ) (answer : Answer) (result : ℕ) : Type 0 where
   pub printed : result ≡ 0
-      → (unit : model.TranslationUnit) × IsUnit (chars text) unit × Holds (print_unit unit) room answer
-  pub refused : result ≡ 1 → Refuses IsFaultOf text before room answer
+      → (unit : model.TranslationUnit) × IsUnit (chars text) unit × Holds (print_unit unit) buffer answer
+  pub refused : result ≡ 1 → Refuses IsFaultOf text before buffer answer
   pub small : result ≡ 4
-      → (unit : model.TranslationUnit) × IsUnit (chars text) unit × Lacks (print_unit unit) before room answer
+      → (unit : model.TranslationUnit) × IsUnit (chars text) unit × Lacks (print_unit unit) before buffer answer
   pub status : result ≤ 4
   pub reads : Reads text answer result
 
 -- the formatted text of a module, with its comments, or the fault that is named
-pub record Tidies (layout : Layout) (text before room : List ℕ) (answer : Answer) (result : ℕ) : Type 0 where
-  pub formatted : result ≡ 0 → (out : List ℕ) × IsTidiedBy layout text out × Holds out room answer
-  pub refused : result ≡ 1 → Refuses IsFaultAfterMark text before room answer
-  pub small : result ≡ 4 → (out : List ℕ) × IsTidiedBy layout text out × Lacks out before room answer
+pub record Tidies (layout : Layout) (text before buffer : List ℕ) (answer : Answer) (result : ℕ) : Type 0 where
+  pub formatted : result ≡ 0 → (out : List ℕ) × IsTidiedBy layout text out × Holds out buffer answer
+  pub refused : result ≡ 1 → Refuses IsFaultAfterMark text before buffer answer
+  pub small : result ≡ 4 → (out : List ℕ) × IsTidiedBy layout text out × Lacks out before buffer answer
   pub status : result ≤ 4
   pub reads : Reads text answer result
 
 -- that a text is a module, or the fault that is named
-pub record Checks (text before room : List ℕ) (answer : Answer) (result : ℕ) : Type 0 where
+pub record Checks (text before buffer : List ℕ) (answer : Answer) (result : ℕ) : Type 0 where
   pub accepted : result ≡ 0 → (unit : model.TranslationUnit) × IsUnit (chars text) unit × (answer ≡ counted 0)
-  pub refused : result ≡ 1 → Refuses IsFaultOf text before room answer
+  pub refused : result ≡ 1 → Refuses IsFaultOf text before buffer answer
   pub status : result ≤ 3
   pub reads : Reads text answer result
 
 -- that a text is a module of the dialect, or the fault that is named
-pub record Recognizes (text before room : List ℕ) (answer : Answer) (result : ℕ) : Type 0 where
+pub record Recognizes (text before buffer : List ℕ) (answer : Answer) (result : ℕ) : Type 0 where
   pub accepted : result ≡ 0 → IsRecognized (chars text) × (answer ≡ counted 0)
-  pub refused : result ≡ 1 → Refuses IsRefused text before room answer
+  pub refused : result ≡ 1 → Refuses IsRefused text before buffer answer
   pub status : result ≤ 3
   pub reads : Reads text answer result
 
 -- the text form of the tree with a number that a text derives, or the fault that is named
-pub record WritesTree (what : ℕ) (text before room : List ℕ) (answer : Answer) (result : ℕ) : Type 0 where
-  pub accepted : result ≡ 0 → (form : List ℕ) × IsFormOf (tree_of what) (chars text) form × Holds form room answer
-  pub refused : result ≡ 1 → Refuses (IsFaultIn (tree_of what).symbol) text before room answer
-  pub small : result ≡ 4 → (form : List ℕ) × IsFormOf (tree_of what) (chars text) form × Lacks form before room answer
+pub record WritesTree (what : ℕ) (text before buffer : List ℕ) (answer : Answer) (result : ℕ) : Type 0 where
+  pub accepted : result ≡ 0 → (form : List ℕ) × IsFormOf (tree_of what) (chars text) form × Holds form buffer answer
+  pub refused : result ≡ 1 → Refuses (IsFaultIn (tree_of what).symbol) text before buffer answer
+  pub small : result ≡ 4 → (form : List ℕ) × IsFormOf (tree_of what) (chars text) form × Lacks form before buffer answer
   pub unknown : result ≡ 5 → (4 < what) × (answer ≡ counted 0)
   pub known : 4 < what → (result ≡ 2) ⊎ (result ≡ 5)
   pub status : result ≤ 5
   pub reads : Reads text answer result
 
 -- the printed text of the node of a kind that a form describes
-pub record PrintsForm (what : ℕ) (form before room : List ℕ) (answer : Answer) (result : ℕ) : Type 0 where
-  pub printed : result ≡ 0 → (text : List ℕ) × IsPrint (kind_of what) form text × Holds text room answer
-  pub refused : result ≡ 1 → RefusesForm before room answer
-  pub small : result ≡ 4 → (text : List ℕ) × IsPrint (kind_of what) form text × Lacks text before room answer
+pub record PrintsForm (what : ℕ) (form before buffer : List ℕ) (answer : Answer) (result : ℕ) : Type 0 where
+  pub printed : result ≡ 0 → (text : List ℕ) × IsPrint (kind_of what) form text × Holds text buffer answer
+  pub refused : result ≡ 1 → RefusesForm before buffer answer
+  pub small : result ≡ 4 → (text : List ℕ) × IsPrint (kind_of what) form text × Lacks text before buffer answer
   pub unknown : result ≡ 5 → (16 < what) × (answer ≡ counted 0)
   pub known : 16 < what → (result ≡ 2) ⊎ (result ≡ 5)
   pub status : result ≤ 5
   pub reads : Reads form answer result
 
 -- the tokens of a text before its end or its first invalid token
-pub record WritesTokens (text : List ℕ) (room : List PlacedKind) (answer : Answer) (result : ℕ) : Type 0 where
+pub record WritesTokens (text : List ℕ) (buffer : List PlacedKind) (answer : Answer) (result : ℕ) : Type 0 where
   pub all : result ≡ 0 → (ts : List grammar.Token) × IsTokenList (chars text) ts finished
-      × HoldItems kind_and_place (token_items ts) room × (answer ≡ counted (length ts))
+      × HoldItems kind_and_place (token_items ts) buffer × (answer ≡ counted (length ts))
   pub refused : result ≡ 1 → (ts : List grammar.Token) × (span : grammar.Span)
       × IsTokenList (chars text) ts (carried (invalid_token span))
-      × HoldItems kind_and_place (token_items ts) room × (answer ≡ counted_to (length ts) span)
+      × HoldItems kind_and_place (token_items ts) buffer × (answer ≡ counted_to (length ts) span)
   pub small : result ≡ 4 → (ts : List grammar.Token) × (e : Ending) × IsTokenList (chars text) ts e
-      × HoldItems kind_and_place (token_items ts) room × (length room < length ts)
+      × HoldItems kind_and_place (token_items ts) buffer × (length buffer < length ts)
       × (answer ≡ counted (count_of (length ts)))
-  pub fits : result ≤ 1 → answer.size ≤ length room
+  pub fits : result ≤ 1 → answer.size ≤ length buffer
   pub status : result ≤ 4
   pub reads : Reads text answer result
 
 -- the places of the template lists of a text, in the order of their starts
-pub record WritesLists (text : List ℕ) (room : List Place) (answer : Answer) (result : ℕ) : Type 0 where
+pub record WritesLists (text : List ℕ) (buffer : List Place) (answer : Answer) (result : ℕ) : Type 0 where
   pub all : result ≡ 0 → (places : List (ℕ × ℕ)) × ArePlaces (chars text) places
-      × HoldItems start_and_end places room × (length places ≤ length room) × (answer ≡ counted (length places))
+      × HoldItems start_and_end places buffer × (length places ≤ length buffer) × (answer ≡ counted (length places))
   pub small : result ≡ 4 → (places : List (ℕ × ℕ)) × ArePlaces (chars text) places
-      × HoldItems start_and_end places room × (length room < length places)
+      × HoldItems start_and_end places buffer × (length buffer < length places)
       × (answer ≡ counted (count_of (length places)))
   pub status : (result ≡ 0) ⊎ ((2 ≤ result) × (result ≤ 4))
   pub reads : Reads text answer result

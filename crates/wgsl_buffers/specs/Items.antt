@@ -1,4 +1,4 @@
--- Tokens and places as they are written to a room.
+-- Tokens and places as they are written to a buffer.
 use Rattle.std.specs.Prelude.{◌≡◌, ℕ, zero, suc, ◌-◌, ◌^◌, min, List, [], ◌∷◌, ◌++◌, length, take, map, Option, Some, None}
 use Rattle.grammar.specs.Tokens.{Token, Span}
 use Rattle.wgsl_model.specs.Faults.Kinds.{invalid_token_kind}
@@ -14,9 +14,9 @@ use Rattle.wgsl_buffers.specs.declared.tokens.PlacedKind.{PlacedKind}
 abbrev pub count_of : ℕ → ℕ
 count_of n = min n (2 ^ 64 - 1)
 
--- the room begins with these items, or holds the first of them where not all fit
+-- the buffer begins with these items, or holds the first of them where not all fit
 abbrev pub HoldItems : {X Y : Type 0} → (X → Y) → List Y → List X → Type 0
-HoldItems view items room = map view (take (length items) room) ≡ take (length room) items
+HoldItems view items buffer = map view (take (length items) buffer) ≡ take (length buffer) items
 
 -- the number of a kind, and a place
 abbrev pub kind_and_place : PlacedKind → ℕ × ℕ × ℕ
@@ -30,7 +30,7 @@ item_of_token t = (t.class, t.start, t.end)
 abbrev pub token_items : List Token → List (ℕ × ℕ × ℕ)
 token_items ts = map item_of_token ts
 
--- so many tokens before text that is no token, and where that stands
+-- a number of tokens before text that is no token, and where that is
 abbrev pub counted_to : ℕ → Span → Answer
 counted_to n place = record { size = n; start = place.start; end = place.end; kind = invalid_token_kind; expected = 0 }
 

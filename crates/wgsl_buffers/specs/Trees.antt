@@ -54,7 +54,7 @@ abbrev pub IsFormOf : Tree → List ℕ → List ℕ → Type 0
 IsFormOf t source form = (v : Value t.symbol) × IsTreeOf t.symbol source v × (form ≡ text_form.form (t.code v))
 
 -- what is returned of a source where its tree is written: Ok only with the form of the tree that it
--- derives; else that memory was refused, or the fault that is named; either stands in the text or
+-- derives; else that an allocation failed, or the fault that is named; either is in the text or
 -- ends one byte past it
 abbrev pub IsReadTree : Tree → List ℕ → Result (String Global) Error → Type 0
 IsReadTree t source result = IsRead t.symbol (λ text. IsFormOf t (chars source) (string_bytes text)) source result

@@ -1,4 +1,4 @@
-//! What a call returns: a status, and the rest in memory of the caller's.
+//! What a call returns: a status, and the rest in memory of the caller.
 
 ghost use Rattle.std.specs.Prelude.{◌≡◌, ◌⊎◌, ◌<◌, false, true, length, take, MatchOption};
 ghost use Rattle.std.specs.Str.{IsUtf8};
@@ -8,16 +8,16 @@ ghost use Rattle.wgsl_buffers.specs.Answers.{counted, at_place, Holds, Lacks, Is
 pub const DONE: u32 = 0;
 
 /// The text is refused: the answer has the kind and the place of the fault, and its texts are in
-/// the room if they fit.
+/// the buffer if they fit.
 pub const REFUSED: u32 = 1;
 
 /// The bytes are no UTF-8: the answer starts where they stop being it.
 pub const NOT_UTF8: u32 = 2;
 
-/// Memory was refused.
+/// An allocation failed.
 pub const OUT_OF_MEMORY: u32 = 3;
 
-/// The room is too small: the answer says how much is needed. The room is as it was.
+/// The buffer is too small: the answer says how much is needed. The buffer is as it was.
 pub const TOO_SMALL: u32 = 4;
 
 /// No tree has the number that was asked for.
@@ -39,7 +39,7 @@ pub struct Answer {
 }
 
 impl Answer {
-    /// So many bytes or items.
+    /// A number of bytes or items.
     pub(crate) fn of_size(size: usize) -> Answer
         ensures { result ≡ counted size }
     {
@@ -66,34 +66,34 @@ impl Answer {
     }
 }
 
-/// Copies bytes to the room if they fit, and tells whether they do.
-pub fn give(bytes: &[u8], room: &mut [u8]) -> bool
-    ensures given { result ≡ true → take (length bytes.now) room.new ≡ bytes.now }
-    ensures small { result ≡ false → length room.old < length bytes.now }
-    ensures kept { result ≡ false → room.new ≡ room.old }
+/// Copies bytes to the buffer if they fit, and tells whether they do.
+pub fn give(bytes: &[u8], buffer: &mut [u8]) -> bool
+    ensures given { result ≡ true → take (length bytes.now) buffer.new ≡ bytes.now }
+    ensures small { result ≡ false → length buffer.old < length bytes.now }
+    ensures kept { result ≡ false → buffer.new ≡ buffer.old }
 {
     let size = bytes.len();
-    if room.len() < size {
+    if buffer.len() < size {
         return false;
     }
-    room[..size].copy_from_slice(bytes);
+    buffer[..size].copy_from_slice(bytes);
     true
 }
 
-/// Answers with a text.
-pub fn tell_text(text: &str, room: &mut [u8], answer: &mut Answer) -> u32
-    ensures { ((result ≡ 0) × Holds text.now room.new answer.new) ⊎
-        ((result ≡ 4) × Lacks text.now room.old room.new answer.new) }
+/// Returns a text.
+pub fn tell_text(text: &str, buffer: &mut [u8], answer: &mut Answer) -> u32
+    ensures { ((result ≡ 0) × Holds text.now buffer.new answer.new) ⊎
+        ((result ≡ 4) × Lacks text.now buffer.old buffer.new answer.new) }
 {
     *answer = Answer::of_size(text.len());
-    if give(text.as_bytes(), room) {
+    if give(text.as_bytes(), buffer) {
         DONE
     } else {
         TOO_SMALL
     }
 }
 
-/// Answers with a number.
+/// Returns a number.
 pub fn tell_number(number: usize, answer: &mut Answer) -> u32
     ensures status { result ≡ 0 }
     ensures number { answer.new ≡ counted number }
@@ -102,7 +102,7 @@ pub fn tell_number(number: usize, answer: &mut Answer) -> u32
     DONE
 }
 
-/// Answers that memory was refused.
+/// Returns that an allocation failed.
 pub fn refuse_memory(answer: &mut Answer) -> u32
     ensures status { result ≡ 3 }
     ensures nothing { answer.new ≡ counted 0 }

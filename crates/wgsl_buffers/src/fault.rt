@@ -62,9 +62,9 @@ fn texts_of(alloc: Global, kind: &ErrorKind) -> Result<String, AllocError>
     Ok(texts)
 }
 
-/// Answers with an error.
-pub fn tell_error(alloc: Global, error: Error, room: &mut [u8], answer: &mut Answer) -> u32
-    ensures refused { result ≡ 1 → TellsError error room.old room.new answer.new }
+/// Returns an error.
+pub fn tell_error(alloc: Global, error: Error, buffer: &mut [u8], answer: &mut Answer) -> u32
+    ensures refused { result ≡ 1 → TellsError error buffer.old buffer.new answer.new }
     ensures named { result ≡ 1 → ¬ (error.error ≡ kinds.OutOfMemory) }
     ensures memory { result ≡ 3 → answer.new ≡ counted 0 }
     ensures status { (result ≡ 1) ⊎ (result ≡ 3) }
@@ -82,13 +82,18 @@ pub fn tell_error(alloc: Global, error: Error, room: &mut [u8], answer: &mut Ans
         kind: number_of(&error.error),
         expected: expected_of(&error.error).len(),
     };
-    give(texts.as_bytes(), room);
+    give(texts.as_bytes(), buffer);
     REFUSED
 }
 
 /// Returns an error of a text form.
-pub fn tell_form_error(alloc: Global, error: FormError, room: &mut [u8], answer: &mut Answer) -> u32
-    ensures refused { result ≡ 1 → RefusesForm room.old room.new answer.new }
+pub fn tell_form_error(
+    alloc: Global,
+    error: FormError,
+    buffer: &mut [u8],
+    answer: &mut Answer,
+) -> u32
+    ensures refused { result ≡ 1 → RefusesForm buffer.old buffer.new answer.new }
     ensures memory { result ≡ 3 → answer.new ≡ counted 0 }
     ensures status { (result ≡ 1) ⊎ (result ≡ 3) }
 {
@@ -106,6 +111,6 @@ pub fn tell_form_error(alloc: Global, error: FormError, room: &mut [u8], answer:
         kind: NOT_A_FORM,
         expected: 0,
     };
-    give(message.as_bytes(), room);
+    give(message.as_bytes(), buffer);
     REFUSED
 }

@@ -1,4 +1,4 @@
-//! Calls that read a text and write what they give into memory of the caller's, with a status.
+//! Calls that read a text and write what they give into memory of the caller, with a status.
 #![tactic(auto)]
 
 mod answer;

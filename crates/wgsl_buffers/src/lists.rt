@@ -33,17 +33,17 @@ pub fn begins_with_list(alloc: Global, text: &[u8], answer: &mut Answer) -> u32
 
 /// Writes the places of the lists of a text, as many as fit, and tells how many there are.
 #[tactic(auto, using(crate::proofs::Written::lists))]
-fn fill(templates: &Templates, size: usize, room: &mut [Place]) -> usize
-    ensures length { length room.new ≡ length room.old }
+fn fill(templates: &Templates, size: usize, buffer: &mut [Place]) -> usize
+    ensures length { length buffer.new ≡ length buffer.old }
     ensures count { result ≡ count_of (length (lists_before templates.now.lists.spans.items size)) }
     ensures held { let places = lists_before templates.now.lists.spans.items size in
-        HoldItems start_and_end places room.new }
+        HoldItems start_and_end places buffer.new }
 {
     let mut count = 0;
     'bytes: for start in 0..size {
         if let Some(end) = templates.end_of(start) {
-            if count < room.len() {
-                room[count] = Place { start, end };
+            if count < buffer.len() {
+                buffer[count] = Place { start, end };
             }
             count = count.saturating_add(1);
         }
@@ -53,8 +53,8 @@ fn fill(templates: &Templates, size: usize, room: &mut [Place]) -> usize
 
 /// Where each template list of a text starts, at its `<`, and where the text after it begins: as
 /// many as fit, in the order of their starts, and how many there are.
-pub fn write_lists(alloc: Global, text: &[u8], room: &mut [Place], answer: &mut Answer) -> u32
-    ensures { WritesLists text.now room.new answer.new result }
+pub fn write_lists(alloc: Global, text: &[u8], buffer: &mut [Place], answer: &mut Answer) -> u32
+    ensures { WritesLists text.now buffer.new answer.new result }
 {
     let Some(source) = text_of(text, answer) else {
         return NOT_UTF8;
@@ -62,7 +62,11 @@ pub fn write_lists(alloc: Global, text: &[u8], room: &mut [Place], answer: &mut 
     let Ok(templates) = discover(alloc, source) else {
         return refuse_memory(answer);
     };
-    let count = fill(&templates, text.len(), room);
+    let count = fill(&templates, text.len(), buffer);
     *answer = Answer::of_size(count);
-    if room.len() < count { TOO_SMALL } else { DONE }
+    if buffer.len() < count {
+        TOO_SMALL
+    } else {
+        DONE
+    }
 }

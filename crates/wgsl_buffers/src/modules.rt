@@ -42,41 +42,41 @@ fn checked(alloc: Global, source: &str) -> Result<(), Error>
 }
 
 /// The canonical text of a module.
-pub fn format(alloc: Global, text: &[u8], room: &mut [u8], answer: &mut Answer) -> u32
-    ensures { Formats text.now room.old room.new answer.new result }
+pub fn format(alloc: Global, text: &[u8], buffer: &mut [u8], answer: &mut Answer) -> u32
+    ensures { Formats text.now buffer.old buffer.new answer.new result }
 {
     let Some(source) = text_of(text, answer) else {
         return NOT_UTF8;
     };
     match printed(alloc, source) {
-        Ok(printed) => tell_text(printed.as_str(), room, answer),
-        Err(error) => tell_error(alloc, error, room, answer),
+        Ok(printed) => tell_text(printed.as_str(), buffer, answer),
+        Err(error) => tell_error(alloc, error, buffer, answer),
     }
 }
 
 /// Whether a text is a module.
-pub fn check(alloc: Global, text: &[u8], room: &mut [u8], answer: &mut Answer) -> u32
-    ensures { Checks text.now room.old room.new answer.new result }
+pub fn check(alloc: Global, text: &[u8], buffer: &mut [u8], answer: &mut Answer) -> u32
+    ensures { Checks text.now buffer.old buffer.new answer.new result }
 {
     let Some(source) = text_of(text, answer) else {
         return NOT_UTF8;
     };
     match checked(alloc, source) {
         Ok(()) => tell_number(0, answer),
-        Err(error) => tell_error(alloc, error, room, answer),
+        Err(error) => tell_error(alloc, error, buffer, answer),
     }
 }
 
 /// Whether a text is a module of the dialect that is recognised alone.
-pub fn recognize(alloc: Global, text: &[u8], room: &mut [u8], answer: &mut Answer) -> u32
-    ensures { Recognizes text.now room.old room.new answer.new result }
+pub fn recognize(alloc: Global, text: &[u8], buffer: &mut [u8], answer: &mut Answer) -> u32
+    ensures { Recognizes text.now buffer.old buffer.new answer.new result }
 {
     let Some(source) = text_of(text, answer) else {
         return NOT_UTF8;
     };
     match recognize_str(alloc, source) {
         Ok(()) => tell_number(0, answer),
-        Err(error) => tell_error(alloc, error, room, answer),
+        Err(error) => tell_error(alloc, error, buffer, answer),
     }
 }
 

@@ -69,10 +69,10 @@ pub fn print_form(
     alloc: Global,
     what: u32,
     form: &[u8],
-    room: &mut [u8],
+    buffer: &mut [u8],
     answer: &mut Answer,
 ) -> u32
-    ensures { PrintsForm what form.now room.old room.new answer.new result }
+    ensures { PrintsForm what form.now buffer.old buffer.new answer.new result }
 {
     let Some(form) = text_of(form, answer) else {
         return NOT_UTF8;
@@ -82,7 +82,7 @@ pub fn print_form(
             *answer = Answer::of_size(0);
             UNKNOWN
         }
-        Some(Ok(text)) => tell_text(text.as_str(), room, answer),
-        Some(Err(error)) => tell_form_error(alloc, error, room, answer),
+        Some(Ok(text)) => tell_text(text.as_str(), buffer, answer),
+        Some(Err(error)) => tell_form_error(alloc, error, buffer, answer),
     }
 }

@@ -67,16 +67,16 @@ pub fn tidy(
     alloc: Global,
     choices: &Choices,
     text: &[u8],
-    room: &mut [u8],
+    buffer: &mut [u8],
     answer: &mut Answer,
 ) -> u32
-    ensures { Tidies (layout_of choices.now) text.now room.old room.new answer.new result }
+    ensures { Tidies (layout_of choices.now) text.now buffer.old buffer.new answer.new result }
 {
     let Some(source) = text_of(text, answer) else {
         return NOT_UTF8;
     };
     match tidied(alloc, source, choices) {
-        Ok(tidied) => tell_text(tidied.as_str(), room, answer),
-        Err(error) => tell_error(alloc, error, room, answer),
+        Ok(tidied) => tell_text(tidied.as_str(), buffer, answer),
+        Err(error) => tell_error(alloc, error, buffer, answer),
     }
 }

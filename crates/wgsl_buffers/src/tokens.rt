@@ -20,17 +20,17 @@ pub struct PlacedKind {
 
 /// Takes the tokens that are left, writes as many as fit, and returns how many there are.
 #[tactic(auto, using(crate::proofs::Written::tokens))]
-fn fill(left: &mut TextTokens, room: &mut [PlacedKind]) -> usize
+fn fill(left: &mut TextTokens, buffer: &mut [PlacedKind]) -> usize
     ensures none { tokens_left left.new ≡ [] }
     ensures ending { ending_left left.new ≡ ending_left left.old }
-    ensures length { length room.new ≡ length room.old }
+    ensures length { length buffer.new ≡ length buffer.old }
     ensures count { result ≡ count_of (length (tokens_left left.old)) }
-    ensures held { HoldItems kind_and_place (token_items (tokens_left left.old)) room.new }
+    ensures held { HoldItems kind_and_place (token_items (tokens_left left.old)) buffer.new }
 {
     let mut count = 0;
     'tokens: while let (Some(kind), Some(span)) = (left.kind(), left.span()) {
-        if count < room.len() {
-            room[count] = PlacedKind {
+        if count < buffer.len() {
+            buffer[count] = PlacedKind {
                 kind: kind as usize,
                 start: span.start,
                 end: span.end,
@@ -44,8 +44,13 @@ fn fill(left: &mut TextTokens, room: &mut [PlacedKind]) -> usize
 
 /// The tokens of a text: as many as fit, and how many there are. Where text that is no token ends
 /// them, the text is refused, with its place.
-pub fn write_tokens(alloc: Global, text: &[u8], room: &mut [PlacedKind], answer: &mut Answer) -> u32
-    ensures { WritesTokens text.now room.new answer.new result }
+pub fn write_tokens(
+    alloc: Global,
+    text: &[u8],
+    buffer: &mut [PlacedKind],
+    answer: &mut Answer,
+) -> u32
+    ensures { WritesTokens text.now buffer.new answer.new result }
 {
     let Some(source) = text_of(text, answer) else {
         return NOT_UTF8;
@@ -53,9 +58,9 @@ pub fn write_tokens(alloc: Global, text: &[u8], room: &mut [PlacedKind], answer:
     let Ok(mut left) = TextTokens::new(alloc, source) else {
         return refuse_memory(answer);
     };
-    let count = fill(&mut left, room);
+    let count = fill(&mut left, buffer);
     *answer = Answer::of_size(count);
-    if room.len() < count {
+    if buffer.len() < count {
         return TOO_SMALL;
     }
     match left.invalid() {

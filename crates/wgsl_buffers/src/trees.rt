@@ -81,10 +81,10 @@ pub fn write_tree(
     alloc: Global,
     what: u32,
     text: &[u8],
-    room: &mut [u8],
+    buffer: &mut [u8],
     answer: &mut Answer,
 ) -> u32
-    ensures { WritesTree what text.now room.old room.new answer.new result }
+    ensures { WritesTree what text.now buffer.old buffer.new answer.new result }
 {
     let Some(source) = text_of(text, answer) else {
         return NOT_UTF8;
@@ -94,7 +94,7 @@ pub fn write_tree(
             *answer = Answer::of_size(0);
             UNKNOWN
         }
-        Some(Ok(form)) => tell_text(form.as_str(), room, answer),
-        Some(Err(error)) => tell_error(alloc, error, room, answer),
+        Some(Ok(form)) => tell_text(form.as_str(), buffer, answer),
+        Some(Err(error)) => tell_error(alloc, error, buffer, answer),
     }
 }

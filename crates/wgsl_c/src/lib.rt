@@ -14,12 +14,12 @@ use wgsl_buffers::{Answer, Choices, Place, PlacedKind};
 pub extern "C" fn wgsl_c_format(
     alloc: Global,
     text: &[u8],
-    room: &mut [u8],
+    buffer: &mut [u8],
     answer: &mut Answer,
 ) -> u32
-    ensures { Formats text.now room.old room.new answer.new result }
+    ensures { Formats text.now buffer.old buffer.new answer.new result }
 {
-    wgsl_buffers::format(alloc, text, room, answer)
+    wgsl_buffers::format(alloc, text, buffer, answer)
 }
 
 /// The formatted text of a module, with its comments.
@@ -28,12 +28,12 @@ pub extern "C" fn wgsl_c_tidy(
     alloc: Global,
     choices: &Choices,
     text: &[u8],
-    room: &mut [u8],
+    buffer: &mut [u8],
     answer: &mut Answer,
 ) -> u32
-    ensures { Tidies (layout_of choices.now) text.now room.old room.new answer.new result }
+    ensures { Tidies (layout_of choices.now) text.now buffer.old buffer.new answer.new result }
 {
-    wgsl_buffers::tidy(alloc, choices, text, room, answer)
+    wgsl_buffers::tidy(alloc, choices, text, buffer, answer)
 }
 
 /// Whether a text is a module.
@@ -41,12 +41,12 @@ pub extern "C" fn wgsl_c_tidy(
 pub extern "C" fn wgsl_c_check(
     alloc: Global,
     text: &[u8],
-    room: &mut [u8],
+    buffer: &mut [u8],
     answer: &mut Answer,
 ) -> u32
-    ensures { Checks text.now room.old room.new answer.new result }
+    ensures { Checks text.now buffer.old buffer.new answer.new result }
 {
-    wgsl_buffers::check(alloc, text, room, answer)
+    wgsl_buffers::check(alloc, text, buffer, answer)
 }
 
 /// Whether a text is a module of the dialect that is recognised alone.
@@ -54,12 +54,12 @@ pub extern "C" fn wgsl_c_check(
 pub extern "C" fn wgsl_c_recognize(
     alloc: Global,
     text: &[u8],
-    room: &mut [u8],
+    buffer: &mut [u8],
     answer: &mut Answer,
 ) -> u32
-    ensures { Recognizes text.now room.old room.new answer.new result }
+    ensures { Recognizes text.now buffer.old buffer.new answer.new result }
 {
-    wgsl_buffers::recognize(alloc, text, room, answer)
+    wgsl_buffers::recognize(alloc, text, buffer, answer)
 }
 
 /// The tree that a text is, by its text form: 0 asks for a module, 1 for a directive, 2 for a
@@ -69,12 +69,12 @@ pub extern "C" fn wgsl_c_tree(
     alloc: Global,
     what: u32,
     text: &[u8],
-    room: &mut [u8],
+    buffer: &mut [u8],
     answer: &mut Answer,
 ) -> u32
-    ensures { WritesTree what text.now room.old room.new answer.new result }
+    ensures { WritesTree what text.now buffer.old buffer.new answer.new result }
 {
-    wgsl_buffers::write_tree(alloc, what, text, room, answer)
+    wgsl_buffers::write_tree(alloc, what, text, buffer, answer)
 }
 
 /// The printed text of the node that a form describes: 0 asks for a module, 1 for a directive, 2
@@ -87,12 +87,12 @@ pub extern "C" fn wgsl_c_print(
     alloc: Global,
     what: u32,
     form: &[u8],
-    room: &mut [u8],
+    buffer: &mut [u8],
     answer: &mut Answer,
 ) -> u32
-    ensures { PrintsForm what form.now room.old room.new answer.new result }
+    ensures { PrintsForm what form.now buffer.old buffer.new answer.new result }
 {
-    wgsl_buffers::print_form(alloc, what, form, room, answer)
+    wgsl_buffers::print_form(alloc, what, form, buffer, answer)
 }
 
 /// The tokens of a text, as many as fit.
@@ -100,12 +100,12 @@ pub extern "C" fn wgsl_c_print(
 pub extern "C" fn wgsl_c_tokens(
     alloc: Global,
     text: &[u8],
-    room: &mut [PlacedKind],
+    buffer: &mut [PlacedKind],
     answer: &mut Answer,
 ) -> u32
-    ensures { WritesTokens text.now room.new answer.new result }
+    ensures { WritesTokens text.now buffer.new answer.new result }
 {
-    wgsl_buffers::write_tokens(alloc, text, room, answer)
+    wgsl_buffers::write_tokens(alloc, text, buffer, answer)
 }
 
 /// The places of the template lists of a text, as many as fit.
@@ -113,12 +113,12 @@ pub extern "C" fn wgsl_c_tokens(
 pub extern "C" fn wgsl_c_lists(
     alloc: Global,
     text: &[u8],
-    room: &mut [Place],
+    buffer: &mut [Place],
     answer: &mut Answer,
 ) -> u32
-    ensures { WritesLists text.now room.new answer.new result }
+    ensures { WritesLists text.now buffer.new answer.new result }
 {
-    wgsl_buffers::write_lists(alloc, text, room, answer)
+    wgsl_buffers::write_lists(alloc, text, buffer, answer)
 }
 
 /// Whether a text begins with a template list, after blank space and comments.

@@ -20,7 +20,7 @@ newlines_of value =
 abbrev pub with_width : Choices → List ℕ → Option Choices
 with_width choices value = option_map (λ it. record choices { width = Some it }) (width_of value)
 
--- choices with the indentation that a value gives: a tab, or so many spaces
+-- choices with the indentation that a value gives: a tab, or a number of spaces
 abbrev pub with_indent : Choices → List ℕ → Option Choices
 with_indent choices value =
     if bytes_eq value (codes "tab") then Some (record choices { style = Some Tab; size = None })

@@ -68,7 +68,7 @@ arguments_of request =
 abbrev pub IsSayable : Source → Type 0
 IsSayable source = source ≢ path (codes "-")
 
--- an indentation is left open, is a tab, or is so many spaces
+-- an indentation is left open, is a tab, or is a number of spaces
 abbrev pub IsIndent : Option IndentStyle → Option ℕ → Type 0
 IsIndent None size = size ≡ None
 IsIndent (Some Tab) size = size ≡ None

@@ -66,7 +66,7 @@ floor_characters bs place r utf8 floor =
     sym (ap (characters_before place) (chars_cut bs r utf8 floor.boundary)
     ∙ characters_before_cut xs ys place (omega (arith, size, floor.bound)) past)
 
--- what stands behind the characters before a place
+-- what is after the characters before a place
 pub rest_characters : (bs : List ℕ) (place r : ℕ) → IsUtf8 bs → IsFloor bs place r
     → chars (drop r bs) ≡ drop (length (characters_before place (chars bs))) (chars bs)
 rest_characters bs place r utf8 floor = sym (
@@ -82,7 +82,7 @@ chars_until bs i j utf8 boundary order =
     ap (λ n. chars (take n bs)) e ∙ ap chars (take-add i (j - i) bs)
     ∙ chars-append (take i bs) (slice_range bs i j) (IsUtf8-take bs i utf8 boundary)
 
--- what stands between two places
+-- what is between two places
 between_characters : (bs : List ℕ) (from to i j : ℕ) → IsUtf8 bs → IsFloor bs from i
     → IsFloor bs to j → i ≤ j → chars (slice_range bs i j)
     ≡ drop (length (characters_before from (chars bs))) (characters_before to (chars bs))
@@ -92,7 +92,7 @@ between_characters bs from to i j utf8 start end order = sym (
     (sym (floor_characters bs to j utf8 end) ∙ chars_until bs i j utf8 start.boundary order)
     ∙ drop-append_seam (chars (take i bs)) (chars (slice_range bs i j)))
 
--- between two places of which the second stands first, there is nothing
+-- between two places of which the second is first, there is nothing
 nothing_between : (bs : List ℕ) (from to i j : ℕ) → IsUtf8 bs → IsFloor bs from i → IsFloor bs to j
     → j ≤ i → drop (length (characters_before from (chars bs))) (characters_before to (chars bs)) ≡ []
 nothing_between bs from to i j utf8 start end order =

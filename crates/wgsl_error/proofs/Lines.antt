@@ -1,4 +1,4 @@
--- What stands round the line ends of a text.
+-- What is round the line ends of a text.
 use Rattle.std.proofs.Common.{ℕ, zero, suc, ◌+◌, ◌-◌, ◌<◌, ◌≤◌, ◌≡◌, refl, sym, ◌∙◌, ap, subst, Bool, true, false, not, List, [], ◌∷◌, ◌++◌, length, take, drop, get_or, None, arith}
 use Rattle.std.proofs.Math.Seq.{get_or-append_seam, get_or-append_right, take-append_seam, take-length, drop-append-add}
 use Rattle.std.proofs.Math.ListN.{get_or-append}
@@ -17,7 +17,7 @@ none_at p [] none k lt = absurd (omega (arith, lt))
 none_at p (c ∷ cs) none zero lt = none.0
 none_at p (c ∷ cs) none (suc k) lt = none_at p cs none.1 k (omega (arith, lt))
 
--- what stands before the first element that passes, and after the last: all where none passes
+-- what is before the first element that passes, and after the last: all where none passes
 before_first_none : (p : ℕ → Bool) (cs : List ℕ) → NonePass p cs → before_first p cs ≡ cs
 before_first_none p cs none =
     ap (λ n. take n cs) (position_or_len_is p cs (length cs) 0 (omega arith) (none_at p cs none)
@@ -46,14 +46,14 @@ after_last_at p xs x ys passes none =
     let whole = xs ++ (x ∷ ys) in
     let n = length xs + 1 in
     let sizes : length whole ≡ length xs + suc (length ys) = length-append xs (x ∷ ys) in
-    let behind : (k : ℕ) → n ≤ k → k < length whole → p (get_or whole k 0) ≡ false =
+    let following : (k : ℕ) → n ≤ k → k < length whole → p (get_or whole k 0) ≡ false =
     (λ k from lt.
     let further : k - length xs ≡ suc (k - n) = omega (arith, from) in
     let inside : k - n < length ys = omega (arith, from, lt, sizes) in
     ap p (get_or-append_right xs (x ∷ ys) k 0 (omega (arith, from))
     ∙ ap (λ i. get_or (x ∷ ys) i 0) further) ∙ none_at p ys none (k - n) inside) in
     let back : suffix_len (λ c. not (p c)) whole ≡ length whole - n =
-    suffix_len_is (λ c. not (p c)) whole n 0 (omega (arith, sizes)) (λ k from lt. ap not (behind k from lt))
+    suffix_len_is (λ c. not (p c)) whole n 0 (omega (arith, sizes)) (λ k from lt. ap not (following k from lt))
     (λ lt. let at : n - 1 ≡ length xs = omega arith in ap (λ i. not (p (get_or whole i 0))) at
     ∙ ap (λ c. not (p c)) (get_or-append_seam xs x ys 0) ∙ ap not passes) in
     let start : length whole - suffix_len (λ c. not (p c)) whole ≡ n = omega (arith, back, sizes) in

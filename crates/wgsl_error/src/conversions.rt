@@ -68,7 +68,7 @@ impl<T: Drop> From<AllocFailed<T>> for ErrorKind {
     }
 }
 
-/// A refusal of memory stands nowhere in the text: its span is 0..0.
+/// A refusal of memory is nowhere in the text: its span is 0..0.
 impl From<AllocError> for Error {
     ghost from_gives = { λ _ e. e ≡ error_at parse.OutOfMemory 0 0 };
 

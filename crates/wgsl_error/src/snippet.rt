@@ -18,7 +18,7 @@ use std::fmt;
 use std::fmt::Write;
 use wgsl_span::Span;
 
-/// An error and the source that it stands in. It prints its message and place, the line in which
+/// An error and the source that it is in. It prints its message and place, the line in which
 /// its span starts, and a line of carets below the span. Lines end at an LF alone; columns are
 /// counted in characters.
 #[derive(PartialEq, Debug, Drop)]
@@ -106,7 +106,7 @@ pub(crate) fn write_marked_line<W: fmt::Write>(
     write_times("^", carets, f)
 }
 
-/// What stands before a span, what stands in it, and what stands from its start on.
+/// What is before a span, what is in it, and what is from its start on.
 fn cut(source: &str, span: Span) -> (&str, &str, &str)
     ensures before { chars result.0.now ≡ text_before (chars source.now) (span_view span) }
     ensures spanned { chars result.1.now ≡ text_within (chars source.now) (span_view span) }
@@ -150,7 +150,7 @@ fn char_count(text: &str) -> usize
     text.chars().count()
 }
 
-/// Writes a text so many times.
+/// Writes a text a number of times.
 fn write_times<W: fmt::Write>(text: &str, times: usize, f: &mut fmt::Formatter<W>) -> fmt::Result
     ensures { let written = concat (replicate times text.now) in
         DisplaysOnOk W.write_str_gives f.old result (Some written) f.new }

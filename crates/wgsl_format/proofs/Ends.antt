@@ -66,8 +66,8 @@ pub unread_spared : (left : Option (List ℕ)) (due : ProcessOutput) (Spared : T
 unread_spared left due Spared (inl read) spared = inl read
 unread_spared left due Spared (inr late) spared = inr (spared (omega (arith, late)))
 
--- what goes out with status 0 is what is due of the bytes that were read, whole: want of memory has
--- another status, and so have a read that failed and what was cut
+-- what goes out with status 0 is what is due of the bytes that were read, whole: a failed
+-- allocation has another status, and so have a read that failed and what was cut
 pub end_written : (Writes : List ℕ → ProcessOutput → Type 0) (IsMadeOf : List ℕ → List ℕ → Type 0)
     (input : Option (List ℕ)) (read : Result (Vec ℕ Global) ReadError) (due end : ProcessOutput)
     → IfOk read (λ all. IsInput input all.items) → IsDue Writes read due

@@ -19,14 +19,14 @@ abbrev pub IsSomeLaidOut : Layout → List ℕ → List ℕ → Type 0
 IsSomeLaidOut layout source text = (ts : List Token) × (e : Ending) × IsTokenList source ts e
     × (text ≡ model.laid_out layout (pieces source ts))
 
--- a text has one token list, so it is laid out by any that it has
+-- a text has one token list, so it is formatted by any that it has
 by_its_tokens : (layout : Layout) (source text : List ℕ) (ts : List Token) → IsTokenList source ts finished
     → IsSomeLaidOut layout source text → text ≡ model.laid_out layout (pieces source ts)
 by_its_tokens layout source text ts h laid =
     laid.3 ∙ ap (λ us. model.laid_out layout (pieces source us))
     (token_list_unique source laid.0 ts laid.1 finished laid.2 h).0
 
--- the text of a source after its mark, laid out, and the mark before it
+-- the text of a source after its mark, formatted, and the mark before it
 pub record IsWhole (layout : Layout) (source mark body laid text : List ℕ) (crlf : Bool) : Type 0 where
   pub is_mark : mark ≡ mark_of source
   pub is_body : body ≡ unmarked source

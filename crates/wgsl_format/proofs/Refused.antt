@@ -35,7 +35,7 @@ syntax_kind source ts e _ h (unchecked_missing v unmet q) k = absurd cc
 no_memory : (source : List ℕ) (e : Error) → IsSyntaxFaultOf source (fault_view e) → e.error ≡ kinds.OutOfMemory → ⊥
 no_memory source e f m = syntax_kind source f.0 f.1 (fault_view e) f.2 f.3 (ap kind_number m)
 
--- an error of the text after so many bytes, and the same with its place in the source
+-- an error of the text after a number of bytes, and the same with its place in the source
 pub record IsMoved (n : ℕ) (before after : Error) : Type 0 where
   pub memory : before.error ≡ kinds.OutOfMemory → after ≡ before
   pub fault : (before.error ≡ kinds.OutOfMemory → ⊥) → fault_view after ≡ fault_after n (fault_view before)
@@ -52,7 +52,7 @@ moved_refused source mark body n before after b w (inr f) moved =
       moved.fault (no_memory body before f) ∙ ap (λ i. fault_after i (fault_view before)) w,
     )
 
--- it stands within the source
+-- it is within the source
 pub moved_placed : (body : List ℕ) (n size whole : ℕ) (before after : Error) → n + size ≡ whole
     → IsOutOfMemory before ⊎ IsSyntaxFaultOf body (fault_view before)
     → StandsWithin before.span size → IsMoved n before after → StandsWithin after.span whole

@@ -19,7 +19,7 @@ use Rattle.wgsl_format.specs.Report.{outcome_of}
 pub no_text : (bytes : List ℕ) → (IsUtf8 bytes → ⊥) → is_utf8 bytes ≡ false
 no_text bytes invalid = false_from_ne_true (is_utf8 bytes) (λ valid. invalid (IsUtf8-from_is_utf8 bytes valid))
 
--- an error that is no want of memory is the fault that is named
+-- an error that is no failed allocation is the fault that is named
 is_fault : (IsFault : Fault → Type 0) (e : Error)
     → (e ≡ error_at parse.OutOfMemory 0 0) ⊎ IsFault (fault_view e)
     → ¬ (e.error ≡ kinds.OutOfMemory) → IsFault (fault_view e)

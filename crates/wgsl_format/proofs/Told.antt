@@ -53,7 +53,7 @@ told_to_errors text status sent answer old new told added =
     let whole = goes_to_errors text status sent answer None old new told added in
     (whole.0, whole.1, whole.2, whole.4)
 
--- the line that tells of a want of memory is for the errors alone
+-- the line that tells of a failed allocation is for the errors alone
 pub memory_told : (end : ProcessOutput) (known : Option (List ℕ)) → GoesOut out_of_memory end
     → Appends known known end.output
 memory_told end known (inl whole) = rw whole (Appends-nil known)

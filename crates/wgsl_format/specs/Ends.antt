@@ -15,20 +15,21 @@ IsInput known bytes = IfSome known (λ all. bytes ≡ all)
 abbrev pub nothing_read : ProcessOutput
 nothing_read = complaint 4 []
 
--- what is due where the input could not be read: that memory was refused; nothing where a read
+-- what is due where the input could not be read: that an allocation failed; nothing where a read
 -- failed
 abbrev pub IsDueUnread : ReadError → ProcessOutput → Type 0
 IsDueUnread unread.OutOfMemory due = due ≡ out_of_memory
 IsDueUnread unread.Failed due = due ≡ nothing_read
 
--- What is due of what was read: what the program writes of its bytes, unless memory was refused;
+-- What is due of what was read: what the program writes of its bytes, unless an allocation failed;
 -- nothing where a read failed.
 abbrev pub IsDue : (List ℕ → ProcessOutput → Type 0) → Result (Vec ℕ Global) ReadError → ProcessOutput → Type 0
 IsDue Writes (Ok bytes) due = Writes bytes.items due ⊎ (due ≡ out_of_memory)
 IsDue Writes (Err error) due = IsDueUnread error due
 
 -- What a run over this input, of which it left so much, has to write: what the program writes of
--- its bytes, where it read them all; else that memory was refused, or nothing, where a read failed.
+-- its bytes, where it read them all; else that an allocation failed, or nothing, where a read
+-- failed.
 pub data IsOwed (Writes : List ℕ → ProcessOutput → Type 0) (input left : Option (List ℕ)) : ProcessOutput → Type 0 where
   all_read : (bytes : List ℕ) (due : ProcessOutput) → IsInput input bytes → IsAtEnd left
       → Writes bytes due → IsOwed Writes input left due

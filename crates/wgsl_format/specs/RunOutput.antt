@@ -10,7 +10,7 @@ use Rattle.wgsl_model_tidy.specs.Layout.{Layout, standard}
 use Rattle.wgsl_model_tidy.specs.Syntax.{IsModuleInSyntax}
 
 -- The text is the printed unit of these bytes, and reads as that unit without its empty items,
--- spans aside.
+-- ignoring spans.
 pub record IsReprinted (bytes text : List ℕ) : Type 0 where
   pub unit : TranslationUnit
   pub derived : IsUnit (chars bytes) unit

@@ -23,7 +23,7 @@ pub enum Report<K> {
     Refused(String),
     /// The source is no text: status 2.
     NotUtf8,
-    /// Memory was refused: status 3.
+    /// An allocation failed: status 3.
     OutOfMemory,
     /// A read failed: nothing is written, with status 4.
     Unread,
@@ -39,7 +39,7 @@ pub(crate) fn unread<K>(error: ReadError) -> Report<K>
     }
 }
 
-/// What is to be written where the source is refused, unless that is for want of memory.
+/// What is to be written where the source is refused, unless that is for a failed allocation.
 pub(crate) fn refused<K>(alloc: Global, error: Error) -> Result<Report<K>, AllocError>
     ensures told { IfOk result (λ report.
         outcome_of report ≡ complaint 1 (shown_fault (fault_view error) ++ codes "\n")) }

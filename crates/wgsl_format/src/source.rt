@@ -26,7 +26,7 @@ pub(crate) fn split_mark(source: &str) -> (&str, &str)
     }
 }
 
-/// An error in the text after so many bytes of a source, with its place in the source. That
+/// An error in the text after a number of bytes of a source, with its place in the source. That
 /// allocation failed has no place.
 pub(crate) fn error_after(bytes: usize, error: Error) -> Error
     requires end { bytes + error.span.end < 2 ^ 64 }

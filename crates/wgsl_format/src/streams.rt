@@ -69,7 +69,7 @@ pub(crate) fn tell<W: Write>(writer: &mut W, text: &[u8], status: u8) -> u8
     }
 }
 
-/// Tells that memory was refused: status 3, or 4 where the line could not be written.
+/// Tells that an allocation failed: status 3, or 4 where the line could not be written.
 pub fn refuse_memory<E: Write>(errors: &mut E) -> u8
     ensures { (end : ProcessOutput) × GoesOut out_of_memory end × (result ≡ end.status)
         × Appends (E.contents errors.old) (E.contents errors.new) end.errors }

@@ -28,8 +28,8 @@ const RULES: usize = 8;
 /// LF, in block comments too. If a block comment begins a line and each of its later lines begins
 /// with `*`, these lines begin one column after its first. Names are not checked, so a text with
 /// reserved words or with attributes, address spaces or severities that `parse_str` does not know
-/// is formatted too. Otherwise the error is the first token that can't be where it is; else the text
-/// that is no token; else that the text ends too early.
+/// is formatted too. Otherwise the error is the first token that can't be where it is; else the
+/// text that is no token; else that the text ends too early.
 pub fn tidy(alloc: Global, source: &str) -> Result<String, Error>
     ensures accepted { IfOk result (λ _. IsModuleInSyntax (unmarked (chars source.now))) }
     ensures refused { IfErr result (λ e.
@@ -65,8 +65,8 @@ pub fn tidy_with(alloc: Global, source: &str, layout: Layout) -> Result<String, 
 }
 
 /// `tidy_with` on a stack that grows with a depth: where brackets, blocks and template lists nest
-/// deeper than so many levels, the error is of the kind `OutOfMemory`. They are counted by the rules
-/// of the grammar, so a few more levels may be accepted.
+/// deeper than a number of levels, the error is of the kind `OutOfMemory`. They are counted by the
+/// rules of the grammar, so a few more levels may be accepted.
 pub fn tidy_within(
     alloc: Global,
     source: &str,

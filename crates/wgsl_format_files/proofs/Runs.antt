@@ -86,7 +86,7 @@ module _ (becomes : Files → Source → List ℕ → List ℕ → Type 0) (refu
     comes_more inputs source between b c rest event others one,
   )
 
-  -- what holds of a run so far, over so many inputs
+  -- what holds of a run so far, over a number of inputs
   pub record IsRunSoFar (inputs : List Source) (count : ℕ) (old now : State)
       (output written errors told : Option (List ℕ)) (tally : Tally) : Type 0 where
     pub came : List Came

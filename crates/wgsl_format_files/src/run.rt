@@ -135,7 +135,7 @@ fn tell_more<W: Write, E: Write>(
     tell_event(name, event, output, errors)
 }
 
-/// Writes the summary of a run over so many inputs, and returns the status of the run.
+/// Writes the summary of a run over a number of inputs, and returns the status of the run.
 fn finish<E: Write>(
     alloc: Global,
     how: How<'_>,
@@ -163,7 +163,7 @@ fn finish<E: Write>(
     tally.status
 }
 
-/// Whether a run over so many inputs has a summary.
+/// Whether a run over a number of inputs has a summary.
 fn has_summary(quiet: bool, count: usize) -> bool
     ensures { result ≡ has_summary quiet count }
 {

@@ -163,7 +163,7 @@ character_passed line after c n h e m = moved line after n (c ∷ []) m
 pub adds_as : (a b : Text) (xs ys : List ℕ) → xs ≡ ys → Adds a xs b → Adds a ys b
 adds_as a b xs ys e p = subst (λ zs. Adds a zs b) e p
 
--- so many spaces more
+-- a number of spaces more
 pub spaces_more : (a b c : Text) (n k m : ℕ) → Adds a (replicate n 32) b → Adds b (replicate k 32) c
     → m ≡ n + k → Adds a (replicate m 32) c
 spaces_more a b c n k m p q e = adds_as a c (replicate n 32 ++ replicate k 32) (replicate m 32)

@@ -85,7 +85,7 @@ pub stars_last : (begins : Bool) → has_stars begins [] ≡ not begins
 stars_last true = refl
 stars_last false = refl
 
--- ---- a line that is passed, up to a rest; after its end so many CR are before the rest
+-- ---- a line that is passed, up to a rest; after its end a number of CR are before the rest
 
 pub record InLine (text end rest : List ℕ) : Type 0 where
   pub front : List ℕ

@@ -103,7 +103,7 @@ more after pieces c text None h e = λ b n. h b n ∙ ap (put c) (e b n)
 more after pieces c text (Some rest) h (front, whole, is) =
     (c ∷ front, ap (λ xs. c ∷ xs) whole, λ b n. h b n ∙ ap (put c) (is b n))
 
--- the pieces of a text in a block comment that is in so many others
+-- the pieces of a text in a block comment that is in a number of others
 abbrev in_comment : ℕ → List ℕ → (ℕ → List Piece) → ℕ → List Piece
 in_comment depth text = λ b n. comments b (in_block depth) n text
 

@@ -22,16 +22,16 @@ none_flagged zero = refl
 none_flagged (suc n) = none_flagged n
 
 -- a line ends after a piece that closes a bracket, or opens one, or does neither
-abbrev pub breaks_behind : Bool → Bool → ℕ → List Piece → Bool
-breaks_behind closes opens depth ps = has_break (cond closes depth (cond opens (suc (suc depth)) (suc depth))) ps
+abbrev pub breaks_after : Bool → Bool → ℕ → List Piece → Bool
+breaks_after closes opens depth ps = has_break (cond closes depth (cond opens (suc (suc depth)) (suc depth))) ps
 
 pub first_parts : (depth : ℕ) (p : Piece) (ps : List Piece) → has_break (suc depth) (p ∷ ps)
-    ≡ (breaks p || breaks_behind (closes_one p.class) (opens_one p.class) depth ps)
+    ≡ (breaks p || breaks_after (closes_one p.class) (opens_one p.class) depth ps)
 first_parts depth p ps = refl
 
 step : (closes opens here : Bool) (flags : List Bool) (ps : List Piece)
     → ((depth : ℕ) → has_break (suc depth) ps ≡ any_flag depth flags) → (depth : ℕ)
-    → (here || breaks_behind closes opens depth ps)
+    → (here || breaks_after closes opens depth ps)
     ≡ any_flag depth (cond closes (here ∷ flags) (cond opens (((here || first_flag flags)
     || first_flag (drop 1 flags)) ∷ drop 1 (drop 1 flags)) ((here || first_flag flags) ∷ drop 1 flags)))
 step true opens here flags ps h zero = or_false here
@@ -49,6 +49,6 @@ step false false here flags ps h (suc depth) = ap (λ b. here || b) (h (suc dept
 -- before a piece of a class
 pub flags_step : (here : Bool) (class : ℕ) (flags : List Bool) (ps : List Piece)
     → ((depth : ℕ) → has_break (suc depth) ps ≡ any_flag depth flags) → (depth : ℕ)
-    → (here || breaks_behind (closes_one class) (opens_one class) depth ps)
+    → (here || breaks_after (closes_one class) (opens_one class) depth ps)
     ≡ any_flag depth (flags_before here class flags)
 flags_step here class flags ps h depth = step (closes_one class) (opens_one class) here flags ps h depth

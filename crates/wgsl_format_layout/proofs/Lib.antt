@@ -6,7 +6,7 @@ pub mod TokensCut
 pub mod FlagsRight
 pub mod TriviaScanned
 pub mod TokensFound
-pub mod SeveralBehind
+pub mod SeveralAfter
 pub mod TokensMarked
 pub mod MarkedLeft
 pub mod TokensWritten

@@ -7,7 +7,7 @@ use Rattle.wgsl_model.specs.Tokens.Trivia.{outside}
 use Rattle.wgsl_model_tidy.specs.Pieces.{piece_of, pieces_from}
 use Rattle.wgsl_model_tidy.specs.Roles.{begins_operand, role_of}
 use Rattle.wgsl_model_tidy.specs.LaidOut.{operand_follows, has_lines, has_several}
-use Rattle.wgsl_theory_tidy.proofs.NextRoles.{operand_behind}
+use Rattle.wgsl_theory_tidy.proofs.NextRoles.{operand_after}
 use Rattle.wgsl_format_layout.specs.declared.marks.MarkedToken.{MarkedToken}
 use Rattle.wgsl_format_layout.specs.Marks.{AreMarked, operand_first}
 use Rattle.wgsl_format_layout.specs.Left.{AreLeftFrom}
@@ -17,14 +17,14 @@ use Rattle.wgsl_format_layout.proofs.TokensCut.{StandsNext, stands_next}
 operand_right : (source : List ℕ) (n : ℕ) (ts : List Token) (ms : List MarkedToken)
     → AreLeftFrom source n ts → AreMarked (chars source) ts ms
     → operand_follows (pieces_from (chars source) n ts) ≡ operand_first ms
-operand_right source n [] [] l h = operand_behind false (λ k. []) (λ k. refl) outside 0 _
+operand_right source n [] [] l h = operand_after false (λ k. []) (λ k. refl) outside 0 _
 operand_right source n [] (m ∷ ms) l h = absurd h
 operand_right source n (t ∷ ts) [] l h = absurd h
 operand_right source n (t ∷ ts) (m ∷ ms) l h =
     let first : (k : ℕ) → operand_follows (piece_of (chars source) t k
     ∷ pieces_from (chars source) t.end ts) ≡ operand_first (m ∷ ms) = λ k.
     rw l.cut.1.plain (ap (λ class. begins_operand (role_of false class)) (sym h.0)) in
-    operand_behind (operand_first (m ∷ ms))
+    operand_after (operand_first (m ∷ ms))
     (λ k. piece_of (chars source) t k ∷ pieces_from (chars source) t.end ts) first outside 0 _
 
 -- what is known of the first of them
@@ -43,13 +43,13 @@ marked_next source n [] m ms u l h = absurd h
 marked_next source n (t ∷ ts) m ms u l h =
     let s = stands_next source n (t ∷ ts) m.kind m.span u l (sym h.0) (sym h.1, sym h.2) in
     let same : ts ≡ s.others = ap (drop 1) s.whole in
-    let behind : pieces_from (chars source) t.end ts ≡ pieces_from (chars source) m.span.end s.others =
+    let following : pieces_from (chars source) t.end ts ≡ pieces_from (chars source) m.span.end s.others =
     ap (λ k. pieces_from (chars source) k ts) (sym h.2) ∙ ap (λ xs. pieces_from (chars source) m.span.end xs) same in
     let marked = subst (λ xs. AreMarked (chars source) xs ms) same h.5 in
     record {
       stands = s;
-      lines = h.3 ∙ ap has_lines behind;
-      several = h.4 ∙ ap has_several behind;
+      lines = h.3 ∙ ap has_lines following;
+      several = h.4 ∙ ap has_several following;
       operand = operand_right source m.span.end s.others ms s.left marked;
       marked = marked;
     }

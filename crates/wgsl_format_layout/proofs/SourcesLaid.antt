@@ -1,4 +1,4 @@
--- A source that is laid out token by token, and after its last token.
+-- A source that is formatted token by token, and after its last token.
 use Rattle.std.proofs.Common.{◌≡◌, ℕ, suc, ◌<◌, ◌≤◌, ◌-◌, ◌==◌, ◌&&◌, Bool, true, false, List, [], ◌∷◌, drop, take, length, length-drop, get_or, chars, cond, refl, sym, ap, subst, ◌∙◌}
 use mathlib.Core.Path.{fun_ext}
 use Rattle.std.specs.Prelude.{slice_range}
@@ -16,7 +16,7 @@ use Rattle.wgsl_model_tidy.specs.LaidOut.{is_comment, operand_follows, next_role
 use Rattle.wgsl_theory_tidy.proofs.Comments.{piece, and_false}
 use Rattle.wgsl_lex_token.specs.View.{class_of_kind}
 use Rattle.wgsl_format_layout.specs.States.{state_view}
-use Rattle.wgsl_format_layout.specs.Outputs.{seen_with, seen_by, can_part, WritesComments, FitsBefore, WritesToken, StaysBehind, Parts, IsAt, left_at, WritesNext, Decides}
+use Rattle.wgsl_format_layout.specs.Outputs.{seen_with, seen_by, can_part, WritesComments, FitsBefore, WritesToken, StaysAfter, Parts, IsAt, left_at, WritesNext, Decides}
 use Rattle.wgsl_format_layout.specs.Marks.{AreMarked, operand_first}
 use Rattle.wgsl_format_layout.specs.declared.output.Output.{Output}
 use Rattle.wgsl_format_layout.specs.declared.output.Place.{Place}
@@ -53,7 +53,7 @@ first_does output class right text n ps plain does =
 -- the token fits before what is left after it
 fits_before : (before middle : Output) (source : List ℕ) (n : ℕ) (ts : List Token)
     (token : MarkedToken) (ms : List MarkedToken) (right : Role)
-    → (m : MarkedNext source n ts token ms) → StaysBehind before middle
+    → (m : MarkedNext source n ts token ms) → StaysAfter before middle
     → right ≡ role_in (state_view before.state) (class_of_kind token.kind) (operand_first ms)
     → FitsBefore middle token right (pieces_from (chars source) token.span.end m.stands.others)
 fits_before before middle source n ts token ms right m stays does =
@@ -66,12 +66,12 @@ fits_before before middle source n ts token ms right m stays does =
       several = m.several;
     }
 
--- the comments before a token and the token are laid out
+-- the comments before a token and the token are formatted
 pub token_turn : (before middle after : Output) (source trivia text : List ℕ) (n : ℕ)
     (ts : List Token) (token : MarkedToken) (ms : List MarkedToken) (right : Role) (line_ends : ℕ)
     → IsUtf8 source → (s : MarkedNext source n ts token ms)
     → trivia ≡ slice_range source n token.span.start
-    → text ≡ slice_range source token.span.start token.span.end → StaysBehind before middle
+    → text ≡ slice_range source token.span.start token.span.end → StaysAfter before middle
     → FitsBefore middle token right (pieces_from (chars source) token.span.end s.stands.others)
     → WritesComments before (chars trivia) right true line_ends middle
     → WritesToken middle token right (chars text) line_ends after
@@ -83,13 +83,13 @@ token_turn before middle after source trivia text n ts token ms right line_ends 
     let span = token.span in
     let class = class_of_kind token.kind in
     let left = pieces_from cs span.end s.others in
-    let behind : ℕ → List Piece = λ m. piece class (chars text) m ∷ left in
+    let following : ℕ → List Piece = λ m. piece class (chars text) m ∷ left in
     let does : right ≡ role_in (state_view before.state) class (operand_follows left) = fits.does
     ∙ ap (λ s. role_in s class (operand_follows left)) stays in
     let words : chars text ≡ between cs s.first.start s.first.end =
     part_chars source text span.start span.end u t ∙ ap (λ m. between cs m span.end) (sym s.starts)
     ∙ ap (λ m. between cs s.first.start m) (sym s.stops) in
-    let same : (m : ℕ) → behind m ≡ piece_of cs s.first m ∷ pieces_from cs s.first.end s.others = λ m.
+    let same : (m : ℕ) → following m ≡ piece_of cs s.first m ∷ pieces_from cs s.first.end s.others = λ m.
     ap (λ k. piece k (chars text) m ∷ left) (sym s.class) ∙ ap (λ w. piece s.first.class w m ∷ left)
     words ∙ ap (λ e. piece_of cs s.first m ∷ pieces_from cs e s.others) (sym s.stops) in
     let trivia_is : chars trivia ≡ between cs n s.first.start =
@@ -98,11 +98,11 @@ token_turn before middle after source trivia text n ts token ms right line_ends 
     ∙ ap (λ xs. seen_with before (comments (λ m. piece_of cs s.first m
     ∷ pieces_from cs s.first.end s.others) outside 0 xs)) (sym trivia_is)
     ∙ ap (λ f. seen_with before (comments f outside 0 (chars trivia))) (sym (fun_ext same))
-    ∙ wrote behind (λ m. first_does before class right (chars text) m left s.plain does)
+    ∙ wrote following (λ m. first_does before class right (chars text) m left s.plain does)
     (λ m. follows_here class (chars text) m left s.plain)
     ∙ put left fits
 
--- the comments after the last token are laid out
+-- the comments after the last token are formatted
 pub last_turn : (before after : Output) (source trivia : List ℕ) (n : ℕ) (ts : List Token) (line_ends : ℕ)
     → IsUtf8 source → ts ≡ [] → trivia ≡ drop n source
     → WritesComments before (chars trivia) beginning false line_ends after
@@ -138,7 +138,7 @@ pub written_next : (source : List ℕ) (tokens : List MarkedToken) (before middl
     (line_ends i : ℕ) (undecided : Bool) → IsUtf8 source
     → (n : MarkedNext source at.byte left token (drop (suc at.token) tokens))
     → trivia ≡ slice_range source at.byte token.span.start
-    → text ≡ slice_range source token.span.start token.span.end → StaysBehind before middle
+    → text ≡ slice_range source token.span.start token.span.end → StaysAfter before middle
     → right ≡ role_in (state_view before.state) (class_of_kind token.kind)
     (operand_first (slice_range tokens i (length tokens)))
     → WritesComments before (chars trivia) right true line_ends middle
@@ -166,7 +166,7 @@ written_next source tokens before middle after at left token trivia text right l
       parts = λ e. parts ps fits (sym can ∙ e);
     }
 
--- ---- a source that is laid out up to a place
+-- ---- a source that is formatted up to a place
 
 pub record IsLaid (source : List ℕ) (layout : Plain) (all : List Token) (tokens : List MarkedToken)
     (at : Place) (output : Output) : Type 0 where

@@ -46,12 +46,12 @@ found_more source trivia n ts us kind span before fs last u s rest b t h =
     let trivia_is : chars trivia ≡ between cs n s.first.start =
     part_chars source trivia n span.start u b ∙ ap (λ m. between cs n m) (sym s.starts) in
     let left : AreFound cs span.end s.others fs last = subst (λ xs. AreFound cs span.end xs fs last) others h in
-    let behind : AreFound cs s.first.end s.others fs last =
+    let following : AreFound cs s.first.end s.others fs last =
     subst (λ m. AreFound cs m s.others fs last) (sym s.stops) left in
     let stands : IsTrivia (between cs n s.first.start) true before =
     subst (λ xs. IsTrivia xs true before) trivia_is t in
     subst (λ xs. AreFound cs n xs (f ∷ fs) last) (sym s.whole)
-    (sym s.class, sym s.starts, sym s.stops, subst (λ c. is_comment c ≡ false) (sym s.class) s.plain, stands, behind)
+    (sym s.class, sym s.starts, sym s.stops, subst (λ c. is_comment c ≡ false) (sym s.class) s.plain, stands, following)
 
 -- after the last one
 pub found_last : (source trivia : List ℕ) (n : ℕ) (ts : List Token) (last : Trivia) → IsUtf8 source

@@ -14,9 +14,9 @@ use Rattle.wgsl_format_layout.specs.declared.marks.Trivia.{Trivia}
 use Rattle.wgsl_format_layout.specs.Flags.{first_flag, flags_before}
 use Rattle.wgsl_format_layout.specs.Marks.{AreMarked, AreFound, CountsEnds, token_breaks, token_ends, flags_of, ends_of, lines_of, several_of, with_marks, marks}
 use Rattle.wgsl_theory_tidy.proofs.Comments.{and_false}
-use Rattle.wgsl_format_layout.proofs.FlagsRight.{or_assoc, or_false, any_flag, none_flagged, breaks_behind, first_parts, flags_step}
+use Rattle.wgsl_format_layout.proofs.FlagsRight.{or_assoc, or_false, any_flag, none_flagged, breaks_after, first_parts, flags_step}
 use Rattle.wgsl_format_layout.proofs.TriviaScanned.{class_breaks}
-use Rattle.wgsl_format_layout.proofs.SeveralBehind.{first_there, several_behind}
+use Rattle.wgsl_format_layout.proofs.SeveralAfter.{first_there, several_after}
 
 -- ---- the flags are right
 
@@ -29,7 +29,7 @@ token_counts : (source : List ℕ) (t : Token) (ps : List Piece) (depth : ℕ)
     → CountsEnds (λ m. piece_of source t m ∷ ps) true depth
 token_counts source t ps depth m =
     first_parts depth (piece_of source t m) ps
-    ∙ shift (not (m == 0)) (class_breaks t.class) (breaks_behind (closes_one t.class) (opens_one t.class) depth ps)
+    ∙ shift (not (m == 0)) (class_breaks t.class) (breaks_after (closes_one t.class) (opens_one t.class) depth ps)
     ∙ ap (λ b. (not (m == 0) && true) || b) (sym (first_parts depth (piece_of source t 0) ps))
 
 -- those at the end of a source do not
@@ -48,7 +48,7 @@ flags_right source from [] (f ∷ fs) last h depth = absurd h
 flags_right source from (t ∷ ts) [] last h depth = absurd h
 flags_right source from (t ∷ ts) (f ∷ fs) last h depth =
     let ps = pieces_from source t.end ts in
-    let left = breaks_behind (closes_one t.class) (opens_one t.class) depth ps in
+    let left = breaks_after (closes_one t.class) (opens_one t.class) depth ps in
     h.4.0 (λ m. piece_of source t m ∷ ps) depth (token_counts source t ps depth)
     ∙ ap (λ b. f.before.breaks || b) (first_parts depth (piece_of source t 0) ps)
     ∙ or_assoc f.before.breaks (class_breaks t.class) left
@@ -85,7 +85,7 @@ lines_right source from ts fs last h =
 
 several_right : (source : List ℕ) (from : ℕ) (ts : List Token) (fs : List MarkedToken) (last : Trivia)
     → AreFound source from ts fs last → has_several (pieces_from source from ts) ≡ several_of fs last
-several_right source from [] [] last h = several_behind false (λ m. []) (λ m. refl) outside 0
+several_right source from [] [] last h = several_after false (λ m. []) (λ m. refl) outside 0
     (between source from (width source))
 several_right source from [] (f ∷ fs) last h = absurd h
 several_right source from (t ∷ ts) [] last h = absurd h
@@ -95,7 +95,7 @@ several_right source from (t ∷ ts) (f ∷ fs) last h =
     first_there t.class (between source t.start t.end) m ps h.3
     ∙ ap (λ b. not (closes_one t.class) && not b) (ends_right source t.end ts fs last h.5)
     ∙ ap (λ class. not (closes_one class) && not (ends_of fs last)) (sym h.0) in
-    several_behind (several_of (f ∷ fs) last) (λ m. piece_of source t m ∷ ps) first outside 0
+    several_after (several_of (f ∷ fs) last) (λ m. piece_of source t m ∷ ps) first outside 0
     (between source from t.start)
 
 pub all_marked : (source : List ℕ) (from : ℕ) (ts : List Token) (fs : List MarkedToken) (last : Trivia)

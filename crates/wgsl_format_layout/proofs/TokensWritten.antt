@@ -4,10 +4,10 @@ use Rattle.std.proofs.lemmas.Bool.{and_parts, true≢false}
 use Rattle.wgsl_model_tidy.specs.Pieces.{Piece}
 use Rattle.wgsl_model_tidy.specs.Roles.{Role, opening, template_start, attribute, is, opens_bracket}
 use Rattle.wgsl_model_tidy.specs.Layout.{Layout as Plain, line_fits}
-use Rattle.wgsl_model_tidy.specs.Open.{Style, together, as_written, item_by_item, Open, arguments, bracket, Enclosing, LayoutState, enclosing, behind_token}
-use Rattle.wgsl_model_tidy.specs.LaidOut.{Gap, token, Spot, is_comment, operand_follows, opens_one, has_lines, may_part, style_of, may_break, gap_before_token, gap_text, depth_behind, laid_from}
+use Rattle.wgsl_model_tidy.specs.Open.{Style, together, as_written, item_by_item, Open, arguments, bracket, Enclosing, LayoutState, enclosing, after_token}
+use Rattle.wgsl_model_tidy.specs.LaidOut.{Gap, token, Spot, is_comment, operand_follows, opens_one, has_lines, may_part, style_of, may_break, gap_before_token, gap_text, depth_after, laid_from}
 use Rattle.wgsl_theory_tidy.proofs.Comments.{piece}
-use Rattle.wgsl_theory_tidy.proofs.Laid.{behind_token_at, token_written}
+use Rattle.wgsl_theory_tidy.proofs.Laid.{after_token_at, token_written}
 use Rattle.wgsl_theory_tidy.proofs.Kept.BracketRoles.{opens_same}
 use Rattle.wgsl_theory_tidy.proofs.Kept.ItemLines.{items_begin}
 use Rattle.wgsl_lex_token.specs.View.{class_of_kind}
@@ -47,16 +47,16 @@ parted_bracket true = refl
 parted_bracket false = refl
 
 parted_token : (state : LayoutState) (depth class : ℕ) (right : Role) → opens_bracket right ≡ true
-    → parted_state (behind_token state depth class right together) ≡ behind_token state depth class right item_by_item
+    → parted_state (after_token state depth class right together) ≡ after_token state depth class right item_by_item
 parted_token state depth class opening h =
-    ap (λ (o : Open). record (behind_token state depth class opening
+    ap (λ (o : Open). record (after_token state depth class opening
     item_by_item) { opened = (o, depth) ∷ state.opened }) (parted_bracket (is state.last attribute))
 parted_token state depth class template_start h = refl
 parted_token state depth class right h = absurd (true≢false (sym h))
 
 parted_at : (state : LayoutState) (depth class : ℕ) (right : Role) (column : ℕ)
-    → opens_bracket right ≡ true → parted (behind_token_at state depth class right column together)
-    ≡ behind_token_at state depth class right column item_by_item
+    → opens_bracket right ≡ true → parted (after_token_at state depth class right column together)
+    ≡ after_token_at state depth class right column item_by_item
 parted_at state depth class right column h =
     ap (λ (s : LayoutState). record { state = s; last = token; column = column })
     (parted_token state depth class right h)
@@ -92,16 +92,16 @@ pub record IsWritten (old : Output) (t : MarkedToken) (right : Role) (text : Lis
   pub gap : Gap
   pub plain : is_comment (class_of_kind t.kind) ≡ false
   pub gap_is : gap ≡ gap_before_token (spot_of old) right n
-  pub depth_is : depth ≡ depth_behind gap (state_view old.state).line
+  pub depth_is : depth ≡ depth_after gap (state_view old.state).line
   pub adds : Adds old.text (gap_text (layout_of old) gap ++ text) new.text
   pub state : state_view new.state
-      ≡ behind_token (state_view old.state) depth (class_of_kind t.kind) right (at_first t.lines)
+      ≡ after_token (state_view old.state) depth (class_of_kind t.kind) right (at_first t.lines)
   pub last : last_view new.last ≡ token
 
 -- the spot after it
 spot_at : (old : Output) (t : MarkedToken) (right : Role) (text : List ℕ) (n : ℕ) (new : Output)
     (w : IsWritten old t right text n new)
-    → spot_of new ≡ behind_token_at (state_view old.state) w.depth
+    → spot_of new ≡ after_token_at (state_view old.state) w.depth
     (class_of_kind t.kind) right new.text.line.column (at_first t.lines)
 spot_at old t right text n new w =
     ap₂ (λ (s : LayoutState) l. record { state = s; last = l; column = new.text.line.column }) w.state w.last
@@ -116,12 +116,12 @@ opens_right old t right ps f h = ap opens_bracket f.does
 parted_spot : (old : Output) (t : MarkedToken) (right : Role) (text : List ℕ) (n : ℕ) (new : Output)
     (w : IsWritten old t right text n new) (ps : List Piece) → FitsBefore old t right ps
     → can_part old t ≡ true
-    → parted (spot_of new) ≡ behind_token_at (state_view old.state) w.depth
+    → parted (spot_of new) ≡ after_token_at (state_view old.state) w.depth
     (class_of_kind t.kind) right new.text.line.column item_by_item
 parted_spot old t right text n new w ps f h =
     let class = class_of_kind t.kind in
     let column = new.text.line.column in
-    ap parted (spot_at old t right text n new w ∙ ap (λ b. behind_token_at (state_view old.state)
+    ap parted (spot_at old t right text n new w ∙ ap (λ b. after_token_at (state_view old.state)
     w.depth class right column (at_first b)) (can_opens old t h).in_line)
     ∙ parted_at (state_view old.state) w.depth class right column (opens_right old t right ps f h)
 
@@ -160,7 +160,7 @@ token_seen old t right text n new w ps f =
     inside = enclosing (state_view old.state).opened
 
     at : Style → Spot
-    at = behind_token_at (state_view old.state) w.depth class right column
+    at = after_token_at (state_view old.state) w.depth class right column
 
     after : Style → List ℕ
     after s = laid_from layout (at s) ps
@@ -174,7 +174,7 @@ token_seen old t right text n new w ps f =
     laid : laid_from layout (spot_of old) (piece class text n ∷ ps) ≡ (gap_text layout w.gap ++ text) ++ after style
     laid = token_written layout class w.plain (spot_of old) right [] text (gap_text layout w.gap)
         (gap_text layout w.gap ++ text) n w.depth column w.gap style
-        (behind_token (state_view old.state) w.depth class right style) ps
+        (after_token (state_view old.state) w.depth class right style) ps
         f.does w.gap_is refl refl w.depth_is w.adds.line.column refl refl
 
     styled : after style ≡ picked after (has_lines ps) (not (has_lines ps) && may_part layout inside class ps) fits

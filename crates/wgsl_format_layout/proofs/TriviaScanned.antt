@@ -12,7 +12,7 @@ use Rattle.wgsl_format_layout.specs.Gaps.{comment_class}
 use Rattle.wgsl_format_layout.specs.Comments.{IsNone}
 use Rattle.wgsl_format_layout.specs.Marks.{IsTrivia}
 use Rattle.wgsl_theory_tidy.proofs.Comments.{piece, nothing_left, and_false}
-use Rattle.wgsl_format_layout.proofs.FlagsRight.{breaks_behind, first_parts}
+use Rattle.wgsl_format_layout.proofs.FlagsRight.{breaks_after, first_parts}
 
 -- a line ends after a piece of a class, or a block begins or ends with it
 abbrev pub class_breaks : ℕ → Bool
@@ -22,13 +22,13 @@ class_breaks class = is_among class (LineComment ∷ SymBraceLeft ∷ SymBraceRi
 pub record Scanned (text rest : List ℕ) (has_comment has_end : Bool) : Type 0 where
   pub n : ℕ
   pub ends : has_end ≡ not (n == 0)
-  pub breaks_so : (behind : ℕ → List Piece) (depth : ℕ) → has_break (suc depth)
-      (comments behind outside 0 text) ≡ has_break (suc depth) (comments behind outside n rest)
-  pub ends_so : (behind : ℕ → List Piece) → ends_bracket (comments behind outside 0 text)
-      ≡ (not has_comment && ends_bracket (comments behind outside n rest))
+  pub breaks_so : (following : ℕ → List Piece) (depth : ℕ) → has_break (suc depth)
+      (comments following outside 0 text) ≡ has_break (suc depth) (comments following outside n rest)
+  pub ends_so : (following : ℕ → List Piece) → ends_bracket (comments following outside 0 text)
+      ≡ (not has_comment && ends_bracket (comments following outside n rest))
 
 pub nothing_scanned : (text : List ℕ) → Scanned text text false false
-nothing_scanned text = record { n = 0; ends = refl; breaks_so = λ behind depth. refl; ends_so = λ behind. refl }
+nothing_scanned text = record { n = 0; ends = refl; breaks_so = λ following depth. refl; ends_so = λ following. refl }
 
 -- ---- a character of blank space more
 
@@ -41,8 +41,8 @@ pub scanned_blank : (text rest cs : List ℕ) (c : ℕ) (has_comment has_end aft
 scanned_blank text rest cs c has_comment has_end after none e ends s = record {
   n = s.n + line_ends_at c cs;
   ends = ends ∙ ap (λ b. b || nat_lt 0 (line_ends_at c cs)) s.ends ∙ more_ends s.n (line_ends_at c cs);
-  breaks_so = λ behind depth. s.breaks_so behind depth ∙ ap (has_break (suc depth)) (none behind s.n c cs e);
-  ends_so = λ behind. s.ends_so behind ∙ ap (λ ps. not has_comment && ends_bracket ps) (none behind s.n c cs e);
+  breaks_so = λ following depth. s.breaks_so following depth ∙ ap (has_break (suc depth)) (none following s.n c cs e);
+  ends_so = λ following. s.ends_so following ∙ ap (λ ps. not has_comment && ends_bracket ps) (none following s.n c cs e);
 }
 
 -- ---- a comment more
@@ -66,8 +66,8 @@ comment_parts kind text n depth has_end ps e =
     let class = comment_class kind in
     let here = not (n == 0) || class_breaks class in
     first_parts depth (piece class text n) ps
-    ∙ ap (λ b. here || breaks_behind b (opens_one class) depth ps) (closes_no_bracket kind)
-    ∙ ap (λ b. here || breaks_behind false b depth ps) (opens_no_bracket kind)
+    ∙ ap (λ b. here || breaks_after b (opens_one class) depth ps) (closes_no_bracket kind)
+    ∙ ap (λ b. here || breaks_after false b depth ps) (opens_no_bracket kind)
     ∙ ap (λ b. (b || class_breaks class) || has_break (suc depth) ps) (sym e)
 
 -- after a comment the pieces neither end nor begin with a closing bracket
@@ -76,7 +76,7 @@ comment_ends : (kind : CommentKind) (text : List ℕ) (n : ℕ) (ps : List Piece
 comment_ends kind text n ps has_comment = ap (λ b. not has_comment && b) (closes_no_bracket kind)
     ∙ and_false (not has_comment)
 
--- a text begins with a comment, and another stands after it
+-- a text begins with a comment, and another is after it
 abbrev pub HasComment : List ℕ → CommentKind → List ℕ → List ℕ → Type 0
 HasComment rest kind text after = (b : ℕ → List Piece) (n : ℕ)
     → comments b outside n rest ≡ piece (comment_class kind) text n ∷ comments b outside 0 after
@@ -88,13 +88,13 @@ pub scanned_comment : (text rest words after : List ℕ) (kind : CommentKind) (h
 scanned_comment text rest words after kind has_comment is e s = record {
   n = 0;
   ends = refl;
-  breaks_so = λ behind depth.
-      let ps = comments behind outside 0 after in
-      s.breaks_so behind depth ∙ ap (has_break (suc depth)) (is behind s.n)
+  breaks_so = λ following depth.
+      let ps = comments following outside 0 after in
+      s.breaks_so following depth ∙ ap (has_break (suc depth)) (is following s.n)
       ∙ comment_parts kind words s.n depth false ps s.ends ∙ ap (λ b. b || has_break (suc depth) ps) e;
-  ends_so = λ behind.
-      let ps = comments behind outside 0 after in
-      s.ends_so behind ∙ ap (λ qs. not has_comment && ends_bracket qs) (is behind s.n)
+  ends_so = λ following.
+      let ps = comments following outside 0 after in
+      s.ends_so following ∙ ap (λ qs. not has_comment && ends_bracket qs) (is following s.n)
       ∙ comment_ends kind words s.n ps has_comment;
 }
 
@@ -104,13 +104,13 @@ pub scanned_break : (text rest words after : List ℕ) (kind : CommentKind) (has
     → Scanned text rest has_comment has_end
     → IsTrivia text has_next (record { breaks = true; has_comment = true })
 scanned_break text rest words after kind has_comment has_end has_next is e s = (
-  λ behind depth counts.
-      let ps = comments behind outside 0 after in
-      s.breaks_so behind depth ∙ ap (has_break (suc depth)) (is behind s.n)
+  λ following depth counts.
+      let ps = comments following outside 0 after in
+      s.breaks_so following depth ∙ ap (has_break (suc depth)) (is following s.n)
       ∙ comment_parts kind words s.n depth has_end ps s.ends ∙ ap (λ b. b || has_break (suc depth) ps) e,
-  λ behind same.
-      let ps = comments behind outside 0 after in
-      s.ends_so behind ∙ ap (λ qs. not has_comment && ends_bracket qs) (is behind s.n)
+  λ following same.
+      let ps = comments following outside 0 after in
+      s.ends_so following ∙ ap (λ qs. not has_comment && ends_bracket qs) (is following s.n)
       ∙ comment_ends kind words s.n ps has_comment,
 )
 
@@ -120,13 +120,13 @@ pub scanned_all : (text rest : List ℕ) (has_comment has_end has_next here : Bo
     → here ≡ (has_end && has_next) → Scanned text rest has_comment has_end
     → IsTrivia text has_next (record { breaks = here; has_comment = has_comment })
 scanned_all text rest has_comment has_end has_next here none e s = (
-  λ behind depth counts.
-      s.breaks_so behind depth ∙ ap (λ xs. has_break (suc depth) (comments behind outside s.n xs)) none
-      ∙ ap (has_break (suc depth)) (nothing_left behind s.n) ∙ counts s.n
-      ∙ ap (λ b. (b && has_next) || has_break (suc depth) (behind 0)) (sym s.ends)
-      ∙ ap (λ b. b || has_break (suc depth) (behind 0)) (sym e),
-  λ behind same.
-      s.ends_so behind ∙ ap (λ xs. not has_comment && ends_bracket (comments behind outside s.n xs)) none
-      ∙ ap (λ ps. not has_comment && ends_bracket ps) (nothing_left behind s.n)
+  λ following depth counts.
+      s.breaks_so following depth ∙ ap (λ xs. has_break (suc depth) (comments following outside s.n xs)) none
+      ∙ ap (has_break (suc depth)) (nothing_left following s.n) ∙ counts s.n
+      ∙ ap (λ b. (b && has_next) || has_break (suc depth) (following 0)) (sym s.ends)
+      ∙ ap (λ b. b || has_break (suc depth) (following 0)) (sym e),
+  λ following same.
+      s.ends_so following ∙ ap (λ xs. not has_comment && ends_bracket (comments following outside s.n xs)) none
+      ∙ ap (λ ps. not has_comment && ends_bracket ps) (nothing_left following s.n)
       ∙ ap (λ b. not has_comment && b) (same s.n),
 )

@@ -21,9 +21,9 @@ IsNone text = (b : ℕ → List Piece) (n c : ℕ) (cs : List ℕ) → text ≡ 
 -- pieces after m line ends: a token follows in the line exactly where m is 0 and there is a next
 -- token
 abbrev pub MayFollow : (ℕ → List Piece) → Bool → Type 0
-MayFollow behind has_next = (m : ℕ) → is_followed (behind m) ≡ (m == 0 && has_next)
+MayFollow following has_next = (m : ℕ) → is_followed (following m) ≡ (m == 0 && has_next)
 
 -- whether a token follows in the line, after a text of blank space and comments
 abbrev pub Follows : List ℕ → Bool → Bool → Type 0
-Follows text has_next result = (behind : ℕ → List Piece) → MayFollow behind has_next
-    → is_followed (comments behind outside 0 text) ≡ result
+Follows text has_next result = (following : ℕ → List Piece) → MayFollow following has_next
+    → is_followed (comments following outside 0 text) ≡ result

@@ -5,7 +5,7 @@ use Rattle.wgsl_model.specs.Tokens.Places.{place, width}
 use Rattle.wgsl_theory_grammar.proofs.Tokens.Cuts.{EndsWith}
 use Rattle.wgsl_model_tidy.specs.LaidOut.{is_comment}
 
--- a token stands in a text and another text after it; it is no comment
+-- a token is in a text and another text after it; it is no comment
 pub record IsCutOff (total : ℕ) (text after : List ℕ) (t : Token) : Type 0 where
   pub from : List ℕ
   pub ends : EndsWith text from
@@ -14,7 +14,7 @@ pub record IsCutOff (total : ℕ) (text after : List ℕ) (t : Token) : Type 0 w
   pub stops : t.end ≡ place total after
   pub plain : is_comment t.class ≡ false
 
--- tokens stand after one another in a text
+-- tokens are after one another in a text
 abbrev pub AreCutOff : ℕ → List ℕ → List Token → Type 0
 AreCutOff total text [] = Unit {0}
 AreCutOff total text (t ∷ ts) = (after : List ℕ) × IsCutOff total text after t × AreCutOff total after ts

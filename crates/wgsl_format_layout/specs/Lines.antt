@@ -35,7 +35,7 @@ ended_by layout wanted column = wanted
 abbrev pub is_printable : ℕ → Bool
 is_printable c = nat_le 32 c && nat_le c 126
 
--- a line goes on by so many columns
+-- a line goes on by a number of columns
 pub record MovesOn (old : Line) (columns : ℕ) (new : Line) : Type 0 where
   pub layout : new.layout ≡ old.layout
   pub column : new.column ≡ old.column + columns

@@ -17,26 +17,26 @@ use Rattle.wgsl_format_layout.specs.declared.marks.Trivia.{Trivia}
 abbrev pub AreMarked : List ℕ → List Token → List MarkedToken → Type 0
 AreMarked source [] [] = Unit {0}
 AreMarked source (t ∷ ts) (m ∷ ms) =
-    let behind = pieces_from source t.end ts in
+    let following = pieces_from source t.end ts in
     (class_of_kind m.kind ≡ t.class) × (m.span.start ≡ t.start) × (m.span.end ≡ t.end)
-    × (m.lines ≡ has_lines behind) × (m.several ≡ has_several behind) × AreMarked source ts ms
+    × (m.lines ≡ has_lines following) × (m.several ≡ has_several following) × AreMarked source ts ms
 AreMarked source ts ms = ⊥
 
 -- ---- what is between two tokens
 
 -- of pieces after m line ends these count as a line end, where a token is next
 abbrev pub CountsEnds : (ℕ → List Piece) → Bool → ℕ → Type 0
-CountsEnds behind has_next depth = (m : ℕ)
-    → has_break (suc depth) (behind m) ≡ ((not (m == 0) && has_next) || has_break (suc depth) (behind 0))
+CountsEnds following has_next depth = (m : ℕ)
+    → has_break (suc depth) (following m) ≡ ((not (m == 0) && has_next) || has_break (suc depth) (following 0))
 
 -- a text of blank space and comments before a token, or at the end of a source: whether a line ends
 -- there, and whether a comment is there
 abbrev pub IsTrivia : List ℕ → Bool → Trivia → Type 0
 IsTrivia text has_next trivia =
-    ((behind : ℕ → List Piece) (depth : ℕ) → CountsEnds behind has_next depth → has_break (suc depth)
-    (comments behind outside 0 text) ≡ (trivia.breaks || has_break (suc depth) (behind 0)))
-    × ((behind : ℕ → List Piece) → ((m : ℕ) → ends_bracket (behind m) ≡ ends_bracket (behind 0))
-    → ends_bracket (comments behind outside 0 text) ≡ (not trivia.has_comment && ends_bracket (behind 0)))
+    ((following : ℕ → List Piece) (depth : ℕ) → CountsEnds following has_next depth → has_break (suc depth)
+    (comments following outside 0 text) ≡ (trivia.breaks || has_break (suc depth) (following 0)))
+    × ((following : ℕ → List Piece) → ((m : ℕ) → ends_bracket (following m) ≡ ends_bracket (following 0))
+    → ends_bracket (comments following outside 0 text) ≡ (not trivia.has_comment && ends_bracket (following 0)))
 
 -- the tokens of a source from a place on, none of which is a comment, and what is before each and
 -- after the last

@@ -67,12 +67,12 @@ abbrev pub Writes : Output → Piece → Role → Bool → Output → Type 0
 Writes old p right own new = (ps : List Piece) → next_role (state_view old.state) ps ≡ right
     → owned (spot_of old) right ps ≡ own → seen_with old (p ∷ ps) ≡ seen_with new ps
 
--- the comments of a text are written, with so many line ends after the last one, before pieces of
--- which the first token is of this role, or before none
+-- the comments of a text are written, with a number of line ends after the last one, before pieces
+-- of which the first token is of this role, or before none
 abbrev pub WritesComments : Output → List ℕ → Role → Bool → ℕ → Output → Type 0
 WritesComments old text right has_next n new =
-    (behind : ℕ → List Piece) → ((m : ℕ) → next_role (state_view old.state) (behind m) ≡ right)
-    → MayFollow behind has_next → seen_with old (comments behind outside 0 text) ≡ seen_with new (behind n)
+    (following : ℕ → List Piece) → ((m : ℕ) → next_role (state_view old.state) (following m) ≡ right)
+    → MayFollow following has_next → seen_with old (comments following outside 0 text) ≡ seen_with new (following n)
 
 -- a token that does so comes next, before these pieces, by which it is marked
 pub record FitsBefore (o : Output) (token : MarkedToken) (right : Role) (ps : List Piece) : Type 0 where
@@ -80,15 +80,15 @@ pub record FitsBefore (o : Output) (token : MarkedToken) (right : Role) (ps : Li
   pub lines : token.lines ≡ has_lines ps
   pub several : token.several ≡ has_several ps
 
--- a token that does so is written with its characters after so many line ends, before pieces that
--- fit
+-- a token that does so is written with its characters after a number of line ends, before pieces
+-- that fit
 abbrev pub WritesToken : Output → MarkedToken → Role → List ℕ → ℕ → Output → Type 0
 WritesToken old token right text n new = (ps : List Piece) → FitsBefore old token right ps
     → seen_with old (piece (class_of_kind token.kind) text n ∷ ps) ≡ seen_by new (can_part old token) ps
 
 -- of the state only the depth of the line changed
-abbrev pub StaysBehind : Output → Output → Type 0
-StaysBehind old new = state_view new.state ≡ in_line_of (state_view old.state) new.state.line
+abbrev pub StaysAfter : Output → Output → Type 0
+StaysAfter old new = state_view new.state ≡ in_line_of (state_view old.state) new.state.line
 
 -- a text begins with a line end
 abbrev pub BeginsLine : List ℕ → Type 0

@@ -33,7 +33,7 @@ role_view role.Beginning = plain.beginning
 role_view role.ItemEnd = plain.item_end
 role_view role.Attribute = plain.attribute
 
--- what stands between two tokens
+-- what is between two tokens
 abbrev pub joint_view : Joint → plain_joint.Joint
 joint_view joint.Line = plain_joint.line
 joint_view joint.Nothing = plain_joint.nothing

@@ -26,7 +26,7 @@ pub struct Comment<'s> {
     pub rest: &'s str,
 }
 
-/// How many lines end at a character that stands before a text; CR and LF are one line end.
+/// How many lines end at a character that is before a text; CR and LF are one line end.
 pub(crate) fn line_ends_at(c: char, after: &str) -> usize
     ensures { result ≡ line_ends_at c (chars after.now) }
 {
@@ -36,7 +36,7 @@ pub(crate) fn line_ends_at(c: char, after: &str) -> usize
     usize::from(is_line_break(c))
 }
 
-/// What stands before the rest of a text.
+/// What is before the rest of a text.
 pub(crate) fn before<'s>(text: &'s str, rest: &str) -> &'s str
     requires { EndsWith (chars text.now) (chars rest.now) }
     ensures { (front : List ℕ) →
@@ -45,7 +45,7 @@ pub(crate) fn before<'s>(text: &'s str, rest: &str) -> &'s str
     &text[..text.len() - rest.len()]
 }
 
-/// A line comment, which begins a text, and stands before another after its sign.
+/// A line comment, which begins a text, and is before another after its sign.
 fn line_comment<'s>(text: &'s str, body: &'s str) -> Comment<'s>
     requires sign { chars text.now ≡ 47 ∷ (47 ∷ chars body.now) }
     ensures comment { IsComment (chars text.now) result }
@@ -59,7 +59,7 @@ fn line_comment<'s>(text: &'s str, body: &'s str) -> Comment<'s>
     }
 }
 
-/// A block comment, which begins a text, and stands before another after its sign.
+/// A block comment, which begins a text, and is before another after its sign.
 fn block_comment<'s>(text: &'s str, body: &'s str) -> Comment<'s>
     requires sign { chars text.now ≡ 47 ∷ (42 ∷ chars body.now) }
     ensures comment { IsComment (chars text.now) result }
@@ -79,7 +79,7 @@ fn block_comment<'s>(text: &'s str, body: &'s str) -> Comment<'s>
     }
 }
 
-/// The comment at the front of a text, if one stands there.
+/// The comment at the front of a text, if one is there.
 pub(crate) fn comment_at(text: &str) -> Option<Comment<'_>>
     ensures value { MatchOption result (IsNone (chars text.now)) (λ comment.
         IsComment (chars text.now) comment) }

@@ -24,8 +24,8 @@ pub(crate) enum Gap {
 }
 
 /// How deep a line is after a gap, which was so deep before.
-pub(crate) fn depth_behind(gap: Gap, line: usize) -> usize
-    ensures { result ≡ plain.depth_behind (gap_view gap) line }
+pub(crate) fn depth_after(gap: Gap, line: usize) -> usize
+    ensures { result ≡ plain.depth_after (gap_view gap) line }
 {
     match gap {
         Gap::Closed | Gap::Blank => line,
@@ -38,7 +38,7 @@ pub(crate) fn depth_behind(gap: Gap, line: usize) -> usize
 pub(crate) enum Last {
     /// A token, or nothing.
     Token,
-    /// A block comment before which nothing but such comments stands in its line.
+    /// A block comment before which nothing but such comments is in its line.
     Leading,
     /// Another comment.
     Comment(CommentKind),
@@ -84,14 +84,14 @@ pub(crate) fn is_token(last: Last) -> bool
     }
 }
 
-/// Whether nothing stands before such a token, after a comment too.
+/// Whether nothing is before such a token, after a comment too.
 fn closes_up(right: Role) -> bool
     ensures { result ≡ plain.closes_up (role_view right) }
 {
     right.is_tight() || right.is(Role::TemplateEnd)
 }
 
-/// What stands between a comment and a token where no line end has to stand.
+/// What is between a comment and a token where no line end has to be.
 fn loose_joint(right: Role) -> Joint
     ensures { joint_view result ≡ plain.loose_joint (role_view right) }
 {
@@ -102,10 +102,10 @@ fn loose_joint(right: Role) -> Joint
     }
 }
 
-/// What stands between a block comment and a token, by what stands between that and the token
+/// What is between a block comment and a token, by what is between that and the token
 /// before.
-fn behind_comment(joint: Joint, right: Role) -> Joint
-    ensures { joint_view result ≡ plain.behind_comment (joint_view joint) (role_view right) }
+fn after_comment(joint: Joint, right: Role) -> Joint
+    ensures { joint_view result ≡ plain.after_comment (joint_view joint) (role_view right) }
 {
     if let Joint::Line = joint {
         return Joint::Line;
@@ -115,8 +115,8 @@ fn behind_comment(joint: Joint, right: Role) -> Joint
 
 /// What is between a comment that leads and a token, by what is between the tokens before and after
 /// them.
-fn behind_leading(joint: Joint, right: Role) -> Joint
-    ensures { joint_view result ≡ plain.behind_leading (joint_view joint) (role_view right) }
+fn after_leading(joint: Joint, right: Role) -> Joint
+    ensures { joint_view result ≡ plain.after_leading (joint_view joint) (role_view right) }
 {
     if right.is(Role::BlockEnd) || (is_line(joint) && right.closes_bracket()) {
         return Joint::Line;
@@ -145,9 +145,9 @@ pub(crate) fn token_gap(
             joint_gap(joint, line_ends, broken)
         }
         Last::Comment(CommentKind::Line) => broken,
-        Last::Leading => joint_gap(behind_leading(joint, right), line_ends, broken),
+        Last::Leading => joint_gap(after_leading(joint, right), line_ends, broken),
         Last::Comment(CommentKind::Block | CommentKind::Open) => {
-            joint_gap(behind_comment(joint, right), line_ends, broken)
+            joint_gap(after_comment(joint, right), line_ends, broken)
         }
     }
 }
@@ -163,8 +163,8 @@ fn is_line_comment(kind: CommentKind) -> bool
 }
 
 /// The gap before a comment after a token, which belongs to the next token or does not.
-fn comment_behind(kind: CommentKind, left: Role, owned: bool, line_ends: usize, broken: Gap) -> Gap
-    ensures { gap_view result ≡ plain.comment_behind
+fn comment_after(kind: CommentKind, left: Role, owned: bool, line_ends: usize, broken: Gap) -> Gap
+    ensures { gap_view result ≡ plain.comment_after
         (comment_class kind) (role_view left) owned line_ends (gap_view broken) }
 {
     if left.is(Role::Beginning) {
@@ -192,7 +192,7 @@ pub(crate) fn comment_gap(
         (last_view last) (role_view left) owned line_ends (gap_view broken) }
 {
     match last {
-        Last::Token => comment_behind(kind, left, owned, line_ends, broken),
+        Last::Token => comment_after(kind, left, owned, line_ends, broken),
         Last::Comment(CommentKind::Line) => broken,
         Last::Leading | Last::Comment(CommentKind::Block | CommentKind::Open) => {
             kept(line_ends, broken, Gap::Blank)
@@ -201,8 +201,8 @@ pub(crate) fn comment_gap(
 }
 
 /// Whether the last piece is an opening bracket.
-fn is_behind_opening(last: Last, left: Role) -> bool
-    ensures { result ≡ plain.is_behind_opening (last_view last) (role_view left) }
+fn is_after_opening(last: Last, left: Role) -> bool
+    ensures { result ≡ plain.is_after_opening (last_view last) (role_view left) }
 {
     match last {
         Last::Token => left.opens(),
@@ -224,7 +224,7 @@ pub(crate) fn line_end(
         ≡ plain.line_end items (last_view last) (role_view left) (role_view right) line_ends depth }
 {
     Gap::Broken {
-        empty: 1 < line_ends && items && !(is_behind_opening(last, left) || right.closes()),
+        empty: 1 < line_ends && items && !(is_after_opening(last, left) || right.closes()),
         depth,
     }
 }
@@ -256,7 +256,7 @@ fn leads(gap: Gap, last: Last, left: Role) -> bool
     }
 }
 
-/// What the last piece is after a comment, which stands after a gap.
+/// What the last piece is after a comment, which is after a gap.
 pub(crate) fn comment_last(gap: Gap, last: Last, left: Role, kind: CommentKind) -> Last
     ensures { last_view result ≡ plain.comment_last
         (comment_class kind) (plain.leads (gap_view gap) (last_view last) (role_view left)) }

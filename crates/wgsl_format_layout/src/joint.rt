@@ -1,14 +1,14 @@
-//! What stands between two neighbouring tokens.
+//! What is between two neighbouring tokens.
 
 ghost use Rattle.std.specs.Prelude.{◌≡◌};
-ghost use Rattle.wgsl_model_tidy.specs.Joints.{stay_apart, tight_behind, is_applied, is_template, is_continued, closed_up, continues_line, behind_block, joint_in_line, joint_in_lines, ended, joint};
+ghost use Rattle.wgsl_model_tidy.specs.Joints.{stay_apart, tight_after, is_applied, is_template, is_continued, closed_up, continues_line, after_block, joint_in_line, joint_in_lines, ended, joint};
 ghost use Rattle.wgsl_format_layout.specs.View.{role_view, joint_view};
 ghost use Rattle.wgsl_format_layout.specs.Kinds.{enclosing_view};
 
 use crate::opened::Enclosing;
 use crate::role::Role;
 
-/// What stands between two neighbouring tokens.
+/// What is between two neighbouring tokens.
 #[derive(Clone, Copy)]
 pub(crate) enum Joint {
     Line,
@@ -28,9 +28,9 @@ fn stay_apart(left: Role, right: Role) -> bool
         || (left.is(Role::Ampersand) && right.is(Role::Ampersand))
 }
 
-/// Whether nothing stands after the left one.
-fn tight_behind(left: Role, right: Role) -> bool
-    ensures { result ≡ tight_behind (role_view left) (role_view right) }
+/// Whether nothing is after the left one.
+fn tight_after(left: Role, right: Role) -> bool
+    ensures { result ≡ tight_after (role_view left) (role_view right) }
 {
     left.is(Role::Opening)
         || left.is(Role::At)
@@ -68,7 +68,7 @@ fn closed_up(left: Role, right: Role) -> bool
     ensures { result ≡ closed_up (role_view left) (role_view right) }
 {
     right.is_tight()
-        || tight_behind(left, right)
+        || tight_after(left, right)
         || is_applied(left, right)
         || is_template(left, right)
         || is_continued(left, right)
@@ -85,8 +85,8 @@ fn goes_on(left: Role, right: Role) -> bool
 }
 
 /// What is after `}`; a `;` of the author's may be in a line of its own.
-fn behind_block(right: Role) -> Joint
-    ensures { joint_view result ≡ behind_block (role_view right) }
+fn after_block(right: Role) -> Joint
+    ensures { joint_view result ≡ after_block (role_view right) }
 {
     if right.is(Role::ElseWord) {
         Joint::Space
@@ -123,7 +123,7 @@ fn joint_in_lines(in_brackets: bool, left: Role, right: Role) -> Joint
     } else if right.is(Role::BlockEnd) || left.is(Role::ItemEnd) {
         Joint::Line
     } else if left.is(Role::BlockEnd) {
-        behind_block(right)
+        after_block(right)
     } else if right.is(Role::BlockStart) {
         Joint::Space
     } else if closed_up(left, right) {

@@ -16,9 +16,9 @@ pub struct Layout {
 /// What one level of indentation is.
 #[derive(Clone, Copy, Debug, PartialEq, Eq)]
 pub enum Indent {
-    /// So many spaces; a tab in a comment counts as many columns.
+    /// A number of spaces; a tab in a comment counts as many columns.
     Spaces(u8),
-    /// A tab, which counts as so many columns.
+    /// A tab, which counts as a number of columns.
     Tab(u8),
 }
 

@@ -72,7 +72,7 @@ impl Line {
         self.move_on(self.layout.columns(c))
     }
 
-    /// Goes on by so many columns.
+    /// Goes on by a number of columns.
     fn move_on(&mut self, columns: usize) -> Result<(), AllocError>
         ensures { IfOk result (λ _. MovesOn self.old columns self.new) }
     {

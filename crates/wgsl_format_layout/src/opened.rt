@@ -192,7 +192,7 @@ impl Opened {
         }
     }
 
-    /// How deep the lines in the innermost stand.
+    /// How deep the lines in the innermost are.
     pub(crate) fn inner_depth(&self) -> Result<usize, AllocError>
         ensures { IfOk result (λ depth. depth ≡ plain.inner_depth self.now) }
     {
@@ -202,7 +202,7 @@ impl Opened {
         }
     }
 
-    /// How deep the line stands that closes it.
+    /// How deep the line is that closes it.
     pub(crate) fn outer_depth(&self) -> usize
         ensures { result ≡ plain.outer_depth self.now }
     {

@@ -14,12 +14,12 @@ ghost use Rattle.wgsl_format_layout.specs.Gaps.{comment_class, gap_view, last_vi
 ghost use Rattle.wgsl_format_layout.specs.Comments.{MayFollow};
 ghost use Rattle.wgsl_format_layout.specs.Layouts.{layout_view};
 ghost use Rattle.wgsl_format_layout.specs.Lines.{Continues};
-ghost use Rattle.wgsl_format_layout.specs.Outputs.{spot_of, seen_with, can_part, Writes, WritesComments, FitsBefore, WritesToken, StaysBehind, Parts, IsAt, left_at, WritesNext, Decides, Saves, looking, GoesBack};
+ghost use Rattle.wgsl_format_layout.specs.Outputs.{spot_of, seen_with, can_part, Writes, WritesComments, FitsBefore, WritesToken, StaysAfter, Parts, IsAt, left_at, WritesNext, Decides, Saves, looking, GoesBack};
 
 use crate::comment::{Comment, CommentKind, comment_at, is_followed, line_ends_at};
 use crate::flags::opens_one;
 use crate::gap::{
-    Gap, Last, begins_line, comment_gap, comment_last, depth_behind, is_line, is_token, line_end,
+    Gap, Last, begins_line, comment_gap, comment_last, depth_after, is_line, is_token, line_end,
     token_gap,
 };
 use crate::joint::joint_of;
@@ -97,16 +97,16 @@ impl Output {
     /// Whether a comment before a text of blank space and comments belongs to the token after that,
     /// which has this role.
     fn is_owned(&self, text: &str, right: Role, has_next: bool) -> bool
-        ensures { (behind : ℕ → List plain.Piece) → MayFollow behind has_next →
+        ensures { (following : ℕ → List plain.Piece) → MayFollow following has_next →
             model.owned (spot_of self.now) (role_view right)
-            (plain.comments behind outside 0 (chars text.now)) ≡ result }
+            (plain.comments following outside 0 (chars text.now)) ≡ result }
     {
         let joint = joint_of(self.state.opened.enclosing(), self.state.last, right);
         is_token(self.last) && is_line(joint) && !right.closes() && is_followed(text, has_next)
     }
 
-    /// The gap before a comment after so many line ends, before a token that has this role and owns
-    /// it or does not.
+    /// The gap before a comment after a number of line ends, before a token that has this role and
+    /// owns it or does not.
     fn gap_before_comment(
         &self,
         kind: CommentKind,
@@ -124,7 +124,7 @@ impl Output {
         Ok(comment_gap(kind, self.last, left, owned, line_ends, broken))
     }
 
-    /// The gap before a token that has this role, after so many line ends.
+    /// The gap before a token that has this role, after a number of line ends.
     fn gap_before_token(&self, line_ends: usize, right: Role) -> Result<Gap, AllocError>
         ensures { IfOk result (λ gap.
             gap_view gap ≡ model.gap_before_token (spot_of self.now) (role_view right) line_ends) }
@@ -137,8 +137,8 @@ impl Output {
         Ok(token_gap(enclosing, self.last, left, right, line_ends, broken))
     }
 
-    /// Writes a comment after so many line ends, before a token that has this role and owns it or
-    /// does not.
+    /// Writes a comment after a number of line ends, before a token that has this role and owns it
+    /// or does not.
     fn write_comment(
         &mut self,
         comment: Comment,
@@ -148,11 +148,11 @@ impl Output {
     ) -> Result<(), AllocError>
         ensures laid { IfOk result (λ _. Writes self.old (piece (comment_class comment.entry.kind)
             (chars comment.entry.text.now) line_ends) (role_view right) owned self.new) }
-        ensures state { IfOk result (λ _. StaysBehind self.old self.new) }
+        ensures state { IfOk result (λ _. StaysAfter self.old self.new) }
         ensures text { IfOk result (λ _. Continues self.old.text self.new.text) }
     {
         let gap = self.gap_before_comment(comment.kind, line_ends, right, owned)?;
-        let depth = depth_behind(gap, self.state.line);
+        let depth = depth_after(gap, self.state.line);
         let begins = begins_line(gap, self.last, self.state.last);
         self.text.put_gap(gap)?;
         self.text.put_comment(comment, begins, depth)?;
@@ -171,7 +171,7 @@ impl Output {
     ) -> Result<usize, AllocError>
         ensures laid { IfOk result (λ n.
             WritesComments self.old (chars text.now) (role_view right) has_next n self.new) }
-        ensures state { IfOk result (λ _. StaysBehind self.old self.new) }
+        ensures state { IfOk result (λ _. StaysAfter self.old self.new) }
         ensures text { IfOk result (λ _. Continues self.old.text self.new.text) }
     {
         let mut rest = text;
@@ -201,8 +201,8 @@ impl Output {
             && token.several
     }
 
-    /// Writes a token of this role after so many line ends; a bracket without a line end in it in
-    /// one line.
+    /// Writes a token of this role after a number of line ends; a bracket without a line end in it
+    /// in one line.
     fn write_token(
         &mut self,
         token: MarkedToken,
@@ -221,7 +221,7 @@ impl Output {
         let gap = self.gap_before_token(line_ends, right)?;
         self.text.put_gap(gap)?;
         self.text.put(text)?;
-        self.state.line = depth_behind(gap, self.state.line);
+        self.state.line = depth_after(gap, self.state.line);
         self.last = Last::Token;
         let style = if token.lines {
             Style::AsWritten
@@ -259,7 +259,8 @@ impl Output {
         Ok(Step { at, undecided })
     }
 
-    /// Saves what is needed to go back to this place, from which on the end of the line is looked for.
+    /// Saves what is needed to go back to this place, from which on the end of the line is looked
+    /// for.
     fn save(&mut self, alloc: Global, at: Place) -> Result<Saved, AllocError>
         ensures saved { IfOk result (λ saved. Saves self.old at saved) }
         ensures looking { IfOk result (λ _. self.new ≡ looking self.old) }

@@ -1,4 +1,4 @@
-//! What a token does where it stands.
+//! What a token does where it is.
 
 ghost use Rattle.std.specs.Prelude.{◌≡◌};
 ghost use Rattle.wgsl_model_tidy.specs.Roles.{role_of, sign_role, is, ends_operand, begins_operand, wants_operand, is_tight, opens, opens_bracket, closes, closes_bracket, begins_item};
@@ -7,7 +7,7 @@ ghost use Rattle.wgsl_format_layout.specs.View.{role_view};
 
 use wgsl_lex_token::kind::TokenKind;
 
-/// What a token does where it stands, or is to what follows it.
+/// What a token does where it is, or is to what follows it.
 #[derive(Clone, Copy)]
 pub(crate) enum Role {
     /// A name, `true`, `false`, or the `diagnostic` of a directive.
@@ -42,7 +42,7 @@ pub(crate) enum Role {
     Binary,
     /// `++` or `--` of an increment or a decrement.
     Step,
-    /// Nothing stands before.
+    /// Nothing is before.
     Beginning,
     /// The end of a statement, a declaration or a member.
     ItemEnd,
@@ -51,10 +51,10 @@ pub(crate) enum Role {
 }
 
 /// `-`, `&` or `*`, after an operand or not.
-fn sign_role(behind_operand: bool, kind: TokenKind) -> Role
-    ensures { role_view result ≡ sign_role behind_operand (class_of_kind kind) }
+fn sign_role(after_operand: bool, kind: TokenKind) -> Role
+    ensures { role_view result ≡ sign_role after_operand (class_of_kind kind) }
 {
-    if behind_operand {
+    if after_operand {
         return Role::Binary;
     }
     match kind {
@@ -65,8 +65,8 @@ fn sign_role(behind_operand: bool, kind: TokenKind) -> Role
 }
 
 /// What a kind of token does, after an operand or not, `--` as in a decrement.
-pub(crate) fn role_of(behind_operand: bool, kind: TokenKind) -> Role
-    ensures { role_view result ≡ role_of behind_operand (class_of_kind kind) }
+pub(crate) fn role_of(after_operand: bool, kind: TokenKind) -> Role
+    ensures { role_view result ≡ role_of after_operand (class_of_kind kind) }
 {
     match kind {
         TokenKind::Ident
@@ -93,7 +93,7 @@ pub(crate) fn role_of(behind_operand: bool, kind: TokenKind) -> Role
         TokenKind::SymPeriod => Role::Period,
         TokenKind::SymAttr => Role::At,
         TokenKind::SymMinus | TokenKind::SymAnd | TokenKind::SymStar => {
-            sign_role(behind_operand, kind)
+            sign_role(after_operand, kind)
         }
         TokenKind::SymBang | TokenKind::SymTilde => Role::Prefix,
         TokenKind::SymPlusPlus | TokenKind::SymMinusMinus => Role::Step,
@@ -171,7 +171,7 @@ impl Role {
         )
     }
 
-    /// Whether nothing stands before it.
+    /// Whether nothing is before it.
     pub(crate) fn is_tight(self) -> bool
         ensures { result ≡ is_tight (role_view self) }
     {

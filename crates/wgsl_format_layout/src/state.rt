@@ -82,7 +82,7 @@ impl LayoutState {
                     && !(self.last.is(Role::Attribute) || right.is(Role::ElseWord))))
     }
 
-    /// Whether a line that begins with such a token stands as deep as what is in the innermost.
+    /// Whether a line that begins with such a token is as deep as what is in the innermost.
     fn is_at_depth(&self, right: Role) -> bool
         ensures { result ≡ plain.is_at_depth (state_view self.now) (role_view right) }
     {
@@ -101,7 +101,7 @@ impl LayoutState {
         }
     }
 
-    /// How deep a line stands that begins with such a token.
+    /// How deep a line is that begins with such a token.
     pub(crate) fn depth_of(&self, right: Role) -> Result<usize, AllocError>
         ensures { IfOk result (λ depth.
             depth ≡ plain.depth_of (state_view self.now) (role_view right)) }
@@ -113,7 +113,7 @@ impl LayoutState {
         }
     }
 
-    /// How deep a line stands that begins with a comment before such a token.
+    /// How deep a line is that begins with a comment before such a token.
     pub(crate) fn comment_depth(&self, right: Role) -> Result<usize, AllocError>
         ensures { IfOk result (λ depth.
             depth ≡ plain.comment_depth (state_view self.now) (role_view right)) }
@@ -137,8 +137,8 @@ impl LayoutState {
     }
 
     /// What such a token is to what follows it.
-    fn last_behind(&self, right: Role) -> Role
-        ensures { role_view result ≡ plain.last_behind (state_view self.now) (role_view right) }
+    fn last_after(&self, right: Role) -> Role
+        ensures { role_view result ≡ plain.last_after (state_view self.now) (role_view right) }
     {
         if !right.opens_bracket() && self.last.is(Role::At) {
             return Role::Attribute;
@@ -180,7 +180,7 @@ impl LayoutState {
 
     /// Opens or closes what such a token does; a bracket that it opens is of this style.
     fn open_or_close(&mut self, right: Role, style: Style) -> Result<(), AllocError>
-        ensures opened { IfOk result (λ _. self.new.opened ≡ plain.opened_behind
+        ensures opened { IfOk result (λ _. self.new.opened ≡ plain.opened_after_token
             (state_view self.old) self.old.line (role_view right) (style_view style)) }
         ensures line { IfOk result (λ _. self.new.line ≡ self.old.line) }
     {
@@ -203,9 +203,9 @@ impl LayoutState {
     }
 
     /// Whether the next `{` opens a structure after such a token.
-    fn structure_behind(&self, kind: TokenKind, right: Role) -> bool
+    fn structure_after(&self, kind: TokenKind, right: Role) -> bool
         ensures { result
-            ≡ plain.structure_behind (state_view self.now) (class_of_kind kind) (role_view right) }
+            ≡ plain.structure_after (state_view self.now) (class_of_kind kind) (role_view right) }
     {
         if right.is(Role::BlockStart) {
             return false;
@@ -218,8 +218,8 @@ impl LayoutState {
 
     /// Whether the last attribute is one of a statement, a declaration or a member after such a
     /// token.
-    fn leading_behind(&self, right: Role) -> bool
-        ensures { result ≡ plain.leading_behind (state_view self.now) (role_view right) }
+    fn leading_after(&self, right: Role) -> bool
+        ensures { result ≡ plain.leading_after (state_view self.now) (role_view right) }
     {
         if right.is(Role::At) {
             return self.begins();
@@ -234,13 +234,13 @@ impl LayoutState {
         right: Role,
         style: Style,
     ) -> Result<(), AllocError>
-        ensures { IfOk result (λ _. state_view self.new ≡ plain.behind_token
+        ensures { IfOk result (λ _. state_view self.new ≡ plain.after_token
             (state_view self.old) self.old.line (class_of_kind kind) (role_view right)
             (style_view style)) }
     {
-        let last = self.last_behind(right);
-        let leading = self.leading_behind(right);
-        let structure = self.structure_behind(kind, right);
+        let last = self.last_after(right);
+        let leading = self.leading_after(right);
+        let structure = self.structure_after(kind, right);
         self.open_or_close(right, style)?;
         self.last = last;
         self.leading = leading;

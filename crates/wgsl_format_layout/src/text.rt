@@ -20,7 +20,7 @@ pub struct Text {
 }
 
 impl Text {
-    /// An empty text with room for so many bytes.
+    /// An empty text with room for a number of bytes.
     pub(crate) fn with_capacity(
         alloc: Global,
         bytes: usize,
@@ -60,7 +60,7 @@ impl Text {
         }
     }
 
-    /// Writes so many levels of indentation.
+    /// Writes a number of levels of indentation.
     fn indent(&mut self, depth: usize) -> Result<(), AllocError>
         ensures { IfOk result (λ _.
             Adds self.old (indentation (layout_view self.old.line.layout) depth) self.new) }

@@ -1,4 +1,5 @@
--- Written by tools/tables/node_laws.py from crates/wgsl_model/nodes: lemmas of laws of several clauses.
+-- Written by tools/tables/node_laws.py from crates/wgsl_model/nodes: lemmas of laws of several
+-- clauses.
 use Rattle.wgsl_tree_code.proofs.SpanlessStatementNodes.{assignment_statement_equal}
 use Rattle.wgsl_tree_code.proofs.SpanlessStatementNodes.{break_if_statement_equal}
 use Rattle.wgsl_tree_code.proofs.SpanlessStatementNodes.{case_selector_equal}

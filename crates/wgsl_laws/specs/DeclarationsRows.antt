@@ -175,7 +175,7 @@ abbrev pub bare_attribute_at_the_end_fault : Fault
 bare_attribute_at_the_end_fault =
     record { kind = attribute_kind; texts = codes "align" ∷ (codes "expected 1 argument" ∷ []); span = span 0 6 }
 
--- @align, and the tokens end for want of memory
+-- @align, and the tokens end for a failed allocation
 abbrev pub bare_attribute_in_want_of_memory_tokens : List Token
 bare_attribute_in_want_of_memory_tokens = (sign SymAttr 0 1) ∷ (word (codes "align") 1 6) ∷ []
 

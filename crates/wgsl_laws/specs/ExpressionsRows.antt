@@ -111,12 +111,12 @@ abbrev pub doubled_comma_fault : Fault
 doubled_comma_fault = record { kind = 3; texts = codes "," ∷ []; span = span 4 5 }
 
 -- a b self
-abbrev pub fault_behind_an_unexpected_token_tokens : List Token
-fault_behind_an_unexpected_token_tokens = (word (codes "a") 0 1) ∷ (word (codes "b") 2 3)
+abbrev pub fault_after_an_unexpected_token_tokens : List Token
+fault_after_an_unexpected_token_tokens = (word (codes "a") 0 1) ∷ (word (codes "b") 2 3)
     ∷ (reserved (codes "self") 4 8) ∷ []
 
-abbrev pub fault_behind_an_unexpected_token_fault : Fault
-fault_behind_an_unexpected_token_fault = record { kind = 3; texts = codes "identifier `b`" ∷ []; span = span 2 3 }
+abbrev pub fault_after_an_unexpected_token_fault : Fault
+fault_after_an_unexpected_token_fault = record { kind = 3; texts = codes "identifier `b`" ∷ []; span = span 2 3 }
 
 -- a self
 abbrev pub fault_at_an_unexpected_token_tokens : List Token

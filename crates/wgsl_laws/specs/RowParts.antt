@@ -44,7 +44,7 @@ number_at n start end = at (Expression.literal (LiteralExpression.abstract_int (
 abbrev pub call_at : List ℕ → Option (List ExpressionNode) → List ExpressionNode → FunctionCall
 call_at text template arguments = call (type_expression text (template_of template)) (expressions_of arguments)
 
--- memory was refused
+-- an allocation failed
 abbrev pub want_of_memory : Fault
 want_of_memory = record { kind = out_of_memory_kind; texts = []; span = span 0 0 }
 

@@ -36,12 +36,12 @@ three_declarations_tree = record {
 }
 
 -- ; enable a;
-abbrev pub directive_behind_a_declaration_tokens : List Token
-directive_behind_a_declaration_tokens = (sign SymSemicolon 0 1) ∷ (sign KwEnable 2 8)
+abbrev pub directive_after_a_declaration_tokens : List Token
+directive_after_a_declaration_tokens = (sign SymSemicolon 0 1) ∷ (sign KwEnable 2 8)
     ∷ (word (codes "a") 9 10) ∷ (sign SymSemicolon 10 11) ∷ []
 
-abbrev pub directive_behind_a_declaration_fault : Fault
-directive_behind_a_declaration_fault = record { kind = 3; texts = codes "enable" ∷ []; span = span 2 8 }
+abbrev pub directive_after_a_declaration_fault : Fault
+directive_after_a_declaration_fault = record { kind = 3; texts = codes "enable" ∷ []; span = span 2 8 }
 
 -- @if(a) enable f16;
 abbrev pub attribute_before_a_directive_tokens : List Token
@@ -65,13 +65,13 @@ attribute_before_the_first_declaration_tree =
     record { global_directives = []; global_declarations = attribute_before_a_struct_tree ∷ [] }
 
 -- ; @a enable b;
-abbrev pub directive_with_an_attribute_behind_a_declaration_tokens : List Token
-directive_with_an_attribute_behind_a_declaration_tokens = (sign SymSemicolon 0 1)
+abbrev pub directive_with_an_attribute_after_a_declaration_tokens : List Token
+directive_with_an_attribute_after_a_declaration_tokens = (sign SymSemicolon 0 1)
     ∷ (sign SymAttr 2 3) ∷ (word (codes "a") 3 4) ∷ (sign KwEnable 5 11) ∷ (word (codes "b") 12 13)
     ∷ (sign SymSemicolon 13 14) ∷ []
 
-abbrev pub directive_with_an_attribute_behind_a_declaration_fault : Fault
-directive_with_an_attribute_behind_a_declaration_fault =
+abbrev pub directive_with_an_attribute_after_a_declaration_fault : Fault
+directive_with_an_attribute_after_a_declaration_fault =
     record { kind = 3; texts = codes "enable" ∷ []; span = span 5 11 }
 
 -- @align fn

@@ -1,5 +1,5 @@
-//! Written by tools/tables/node_laws.py from crates/wgsl_model/nodes: attributes of statements, of clauses
-//! and of declarations of values.
+//! Written by tools/tables/node_laws.py from crates/wgsl_model/nodes: attributes of statements, of
+//! clauses and of declarations of values.
 
 ghost use Rattle.std.specs.Prelude.{◌≡◌};
 ghost use Rattle.wgsl_model.specs.Trees.Statements.{compound_attributes};

@@ -8,11 +8,11 @@ ghost use Rattle.wgsl_model.specs.Grammar.Written.{written};
 ghost use Rattle.wgsl_model.specs.Faults.NamedFault.{IsNamed, IsNamedSmall};
 ghost use Rattle.wgsl_model.specs.Grammar.Small.{small};
 ghost use Rattle.wgsl_laws.specs.RowParts.{want_of_memory};
-ghost use Rattle.wgsl_laws.specs.ExpressionsRows.{sum_to_the_left_tokens, sum_to_the_left_tree, product_of_a_negation_tokens, product_of_a_negation_tree, two_negations_tokens, two_negations_tree, base_before_its_component_tokens, base_before_its_component_tree, chain_of_comparisons_tokens, chain_of_comparisons_tree, template_and_call_tokens, template_and_call_tree, last_comma_of_arguments_tokens, last_comma_of_arguments_tree, comparison_of_a_shift_tokens, comparison_of_a_shift_tree, shift_of_a_sum_tokens, shift_of_a_sum_fault, and_beside_or_tokens, and_beside_or_fault, doubled_comma_tokens, doubled_comma_fault, fault_behind_an_unexpected_token_tokens, fault_behind_an_unexpected_token_fault, fault_at_an_unexpected_token_tokens, fault_at_an_unexpected_token_fault, no_expression_tokens, no_expression_fault, boolean_literal_tokens, boolean_literal_tree, no_literal_tokens, no_literal_fault, template_of_one_tokens, template_of_one_tree};
+ghost use Rattle.wgsl_laws.specs.ExpressionsRows.{sum_to_the_left_tokens, sum_to_the_left_tree, product_of_a_negation_tokens, product_of_a_negation_tree, two_negations_tokens, two_negations_tree, base_before_its_component_tokens, base_before_its_component_tree, chain_of_comparisons_tokens, chain_of_comparisons_tree, template_and_call_tokens, template_and_call_tree, last_comma_of_arguments_tokens, last_comma_of_arguments_tree, comparison_of_a_shift_tokens, comparison_of_a_shift_tree, shift_of_a_sum_tokens, shift_of_a_sum_fault, and_beside_or_tokens, and_beside_or_fault, doubled_comma_tokens, doubled_comma_fault, fault_after_an_unexpected_token_tokens, fault_after_an_unexpected_token_fault, fault_at_an_unexpected_token_tokens, fault_at_an_unexpected_token_fault, no_expression_tokens, no_expression_fault, boolean_literal_tokens, boolean_literal_tree, no_literal_tokens, no_literal_fault, template_of_one_tokens, template_of_one_tree};
 ghost use Rattle.wgsl_laws.specs.StatementsRows.{for_header_tokens, for_header_tree, loop_and_continuing_tokens, loop_and_continuing_tree, break_in_continuing_tokens, break_in_continuing_tree, else_ifs_tokens, else_ifs_tree, phony_assignment_tokens, phony_assignment_tree, left_side_in_parentheses_tokens, left_side_in_parentheses_tree, attribute_of_a_block_tokens, attribute_of_a_block_tree, clause_of_a_default_tokens, clause_of_a_default_tree, last_comma_of_selectors_tokens, last_comma_of_selectors_tree, empty_return_tokens, empty_return_tree, product_as_a_statement_tokens, product_as_a_statement_fault, assignment_to_a_call_tokens, assignment_to_a_call_fault, assignment_to_a_template_tokens, assignment_to_a_template_fault, attribute_before_an_assignment_tokens, attribute_before_an_assignment_tree, attributes_in_a_for_header_tokens, attributes_in_a_for_header_tree, attribute_before_a_clause_tokens, attribute_before_a_clause_tree, attributes_in_a_loop_tokens, attributes_in_a_loop_tree, arguments_before_an_assignment_tokens, arguments_before_an_assignment_fault, attribute_before_parentheses_tokens, attribute_before_parentheses_fault, attribute_before_a_semicolon_tokens, attribute_before_a_semicolon_fault, attribute_before_else_tokens, attribute_before_else_fault, attribute_before_a_wrong_template_tokens, attribute_before_a_wrong_template_fault};
 ghost use Rattle.wgsl_laws.specs.DeclarationsRows.{struct_with_a_last_comma_tokens, struct_with_a_last_comma_tree, entry_point_tokens, entry_point_tree, keyword_as_an_attribute_tokens, keyword_as_an_attribute_tree, reserved_word_as_an_attribute_tokens, reserved_word_as_an_attribute_tree, variable_in_storage_tokens, variable_in_storage_tree, struct_without_members_tokens, struct_without_members_fault, attribute_before_a_struct_tokens, attribute_before_a_struct_tree, unknown_builtin_tokens, unknown_builtin_fault, too_many_arguments_tokens, too_many_arguments_fault, needless_parentheses_tokens, needless_parentheses_fault, wrong_constraint_tokens, wrong_constraint_fault, bare_attribute_at_the_end_tokens, bare_attribute_at_the_end_fault, bare_attribute_in_want_of_memory_tokens, open_arguments_tokens, open_arguments_fault, access_mode_without_storage_tokens, access_mode_without_storage_fault, three_template_arguments_tokens, three_template_arguments_fault, reserved_word_as_a_name_tokens, reserved_word_as_a_name_fault, function_without_an_end_tokens, function_without_an_end_fault};
 ghost use Rattle.wgsl_laws.specs.DirectivesRows.{last_comma_of_names_tokens, last_comma_of_names_tree, rule_of_two_names_tokens, rule_of_two_names_tree, unknown_severity_tokens, unknown_severity_fault, reserved_word_as_a_severity_tokens, reserved_word_as_a_severity_fault};
-ghost use Rattle.wgsl_laws.specs.UnitsRows.{empty_unit_tokens, empty_unit_tree, three_declarations_tokens, three_declarations_tree, directive_behind_a_declaration_tokens, directive_behind_a_declaration_fault, attribute_before_a_directive_tokens, attribute_before_a_directive_tree, attribute_before_the_first_declaration_tokens, attribute_before_the_first_declaration_tree, directive_with_an_attribute_behind_a_declaration_tokens, directive_with_an_attribute_behind_a_declaration_fault, bare_attribute_before_a_function_tokens, bare_attribute_before_a_function_fault, attribute_before_no_statement_tokens, attribute_before_no_statement_fault};
+ghost use Rattle.wgsl_laws.specs.UnitsRows.{empty_unit_tokens, empty_unit_tree, three_declarations_tokens, three_declarations_tree, directive_after_a_declaration_tokens, directive_after_a_declaration_fault, attribute_before_a_directive_tokens, attribute_before_a_directive_tree, attribute_before_the_first_declaration_tokens, attribute_before_the_first_declaration_tree, directive_with_an_attribute_after_a_declaration_tokens, directive_with_an_attribute_after_a_declaration_fault, bare_attribute_before_a_function_tokens, bare_attribute_before_a_function_fault, attribute_before_no_statement_tokens, attribute_before_no_statement_fault};
 ghost use Rattle.wgsl_laws.specs.RecognisedAloneRows.{minus_minus_recognised_alone_tokens, minus_minus_recognised_alone_fault, reserved_word_recognised_alone_tokens, reserved_word_recognised_alone_fault, severity_recognised_alone_tokens, severity_recognised_alone_tree, template_recognised_alone_tokens, template_recognised_alone_tree, keyword_recognised_alone_tokens, keyword_recognised_alone_fault, attribute_recognised_alone_tokens, attribute_recognised_alone_fault};
 
 /// Expressions, literals and template lists.
@@ -37,8 +37,8 @@ pub fn expressions()
         shift_of_a_sum_tokens finished shift_of_a_sum_fault }
     ensures and_beside_or { IsNamed expression and_beside_or_tokens finished and_beside_or_fault }
     ensures doubled_comma { IsNamed expression doubled_comma_tokens finished doubled_comma_fault }
-    ensures fault_behind_an_unexpected_token { IsNamed expression
-        fault_behind_an_unexpected_token_tokens finished fault_behind_an_unexpected_token_fault }
+    ensures fault_after_an_unexpected_token { IsNamed expression
+        fault_after_an_unexpected_token_tokens finished fault_after_an_unexpected_token_fault }
     ensures fault_at_an_unexpected_token { IsNamed expression
         fault_at_an_unexpected_token_tokens finished fault_at_an_unexpected_token_fault }
     ensures no_expression { IsNamed expression no_expression_tokens finished no_expression_fault }
@@ -152,15 +152,15 @@ pub fn units()
     ensures empty_unit { Derives checking written unit empty_unit_tree empty_unit_tokens }
     ensures three_declarations { Derives checking written unit
         three_declarations_tree three_declarations_tokens }
-    ensures directive_behind_a_declaration { IsNamed unit
-        directive_behind_a_declaration_tokens finished directive_behind_a_declaration_fault }
+    ensures directive_after_a_declaration { IsNamed unit
+        directive_after_a_declaration_tokens finished directive_after_a_declaration_fault }
     ensures attribute_before_a_directive { Derives checking written unit
         attribute_before_a_directive_tree attribute_before_a_directive_tokens }
     ensures attribute_before_the_first_declaration { Derives checking written unit
         attribute_before_the_first_declaration_tree attribute_before_the_first_declaration_tokens }
-    ensures directive_with_an_attribute_behind_a_declaration { IsNamed unit
-        directive_with_an_attribute_behind_a_declaration_tokens finished
-        directive_with_an_attribute_behind_a_declaration_fault }
+    ensures directive_with_an_attribute_after_a_declaration { IsNamed unit
+        directive_with_an_attribute_after_a_declaration_tokens finished
+        directive_with_an_attribute_after_a_declaration_fault }
     ensures bare_attribute_before_a_function { IsNamed unit
         bare_attribute_before_a_function_tokens finished bare_attribute_before_a_function_fault }
     ensures attribute_before_no_statement { IsNamed unit

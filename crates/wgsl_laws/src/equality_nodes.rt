@@ -1,4 +1,5 @@
-//! Written by tools/tables/node_laws.py from crates/wgsl_model/nodes: where two plain trees are equal.
+//! Written by tools/tables/node_laws.py from crates/wgsl_model/nodes: where two plain trees are
+//! equal.
 
 ghost use Rattle.std.specs.Cmp.{IsEquivalence};
 ghost use Rattle.std.specs.Prelude.{IsTrue, ◌↔◌, ◌≡◌};

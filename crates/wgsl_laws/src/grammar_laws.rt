@@ -54,7 +54,7 @@ pub fn exact_reading()
         (read_all tables M small_body rank_limit (of n) ts ≡ ok v []) ↔ Derives M small n v ts }
 {}
 
-/// The reader answers the tree where the tokens derive one and ended of themselves, and else the
+/// The reader returns the tree where the tokens derive one and ended of themselves, and else the
 /// fault that is named.
 pub fn true_answers()
     ensures whole { (n : Symbol) (ts : List Token) (ending : Ending) →
@@ -64,7 +64,7 @@ pub fn true_answers()
 {}
 
 /// The checks of the form in which one token decides find the checked faults: of the tokens, or of
-/// the tokens and a `(` where memory was refused behind them.
+/// the tokens and a `(` where an allocation failed after them.
 pub fn same_faults()
     ensures finished { (ts : List Token) (ending : Ending) → wants_memory ending ≡ false →
         (x : Fault) (ys : List Token) → FaultIn body apart ts x ys ↔ IsCheckedFault ts ending x ys }

@@ -26,7 +26,7 @@ pub fn unit_or_fault()
 {}
 
 /// The printed text of a derived unit is a text, and reads as that unit without its empty items,
-/// spans aside.
+/// ignoring spans.
 pub fn printed_parse()
     ensures utf8 { (source : List ℕ) (unit : TranslationUnit) →
         IsUnit source unit → is_utf8 (print_unit unit) ≡ true }
@@ -42,7 +42,7 @@ pub fn printed_tokens()
 {}
 
 /// Printing what the printed text of a derived unit reads as gives the same bytes, so the program
-/// writes what it wrote as it stands.
+/// writes what it wrote as it is.
 pub fn print_twice()
     ensures unit { (source : List ℕ) (unit again : TranslationUnit) → IsUnit source unit →
         IsUnit (chars (print_unit unit)) again → print_unit again ≡ print_unit unit }
@@ -50,8 +50,8 @@ pub fn print_twice()
         Formats (print_unit unit) (record { status = 0; output = print_unit unit; errors = [] }) }
 {}
 
-/// Tokens with the kinds that are written from the tree of a derived module, wherever they stand,
-/// derive that module without its empty items, spans aside.
+/// Tokens with the kinds that are written from the tree of a derived module, wherever they are,
+/// derive that module without its empty items, ignoring spans.
 pub fn canonical_parse()
     ensures { (source : List ℕ) (unit : TranslationUnit) →
         IsUnit source unit → (ts : List Token) → map without_place ts ≡ canonical unit →

@@ -1,5 +1,5 @@
-//! Written by tools/tables/node_laws.py from crates/wgsl_model/nodes: `==` of declarations of values and
-//! of statements that hold no others.
+//! Written by tools/tables/node_laws.py from crates/wgsl_model/nodes: `==` of declarations of
+//! values and of statements that hold no others.
 
 ghost use Rattle.std.specs.Prelude.{IsTrue, ◌↔◌, ◌≡◌};
 ghost use Rattle.wgsl_model.specs.Trees.StatementsWithoutSpans.{bare_assert, bare_assignment};

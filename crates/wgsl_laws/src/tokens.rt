@@ -8,7 +8,7 @@ ghost use Rattle.wgsl_model.specs.Tokens.TokenList.{IsTokenList, width};
 ghost use Rattle.wgsl_lexer.specs.declared.lexer.Lexer.{Lexer};
 ghost use Rattle.wgsl_lexer.specs.Given.{TokenItem};
 ghost use Rattle.wgsl_lexer.specs.Left.{HasEnded, IsLeft, GivesItem};
-ghost use Rattle.wgsl_lexer.specs.InOrder.{AreInOrder, IsFaultBehind};
+ghost use Rattle.wgsl_lexer.specs.InOrder.{AreInOrder, IsFaultAfter};
 
 /// Every text has a token list, and only one.
 #[tactic(auto, using(crate::proofs::Hints::token_lists))]
@@ -19,7 +19,7 @@ pub fn one_token_list()
         IsTokenList source ts e → IsTokenList source us f → (ts ≡ us) × (e ≡ f) }
 {}
 
-/// A template list is `<`, what stands inside with the lists in it, and a `>`: the bound by which
+/// A template list is `<`, what is inside with the lists in it, and a `>`: the bound by which
 /// the definition goes down leaves none out.
 #[tactic(auto, using(wgsl_theory_grammar::proofs::Tokens::Bounds::template_is))]
 pub fn lists_within_lists()
@@ -27,14 +27,14 @@ pub fn lists_within_lists()
         Template total text ts rest ↔ Enclosed total (Template total) text ts rest }
 {}
 
-/// No token is empty, they stand in order and in the text, and so does the invalid token that ends
+/// No token is empty, they are in order and in the text, and so does the invalid token that ends
 /// them.
 #[tactic(auto, using(crate::proofs::Hints::token_order))]
 pub fn tokens_in_order()
     ensures tokens { (source : List ℕ) (ts : List Token) (e : Ending) →
         IsTokenList source ts e → AreInOrder 0 ts (width source) }
     ensures fault { (source : List ℕ) (ts : List Token) (e : Ending) →
-        IsTokenList source ts e → IsFaultBehind ts e (width source) }
+        IsTokenList source ts e → IsFaultAfter ts e (width source) }
 {}
 
 /// Each lexer has one list of tokens left, and one way in which they end.
@@ -44,9 +44,9 @@ pub fn one_list_left()
         IsLeft lexer ts e → IsLeft lexer us f → (ts ≡ us) × (e ≡ f) }
 {}
 
-/// Behind a fault, and behind the last token, each call of `next` gives nothing.
+/// After a fault, and after the last token, each call of `next` gives nothing.
 #[tactic(auto, using(wgsl_lexer::proofs::Lefts::ended_gives))]
-pub fn nothing_behind_the_end()
+pub fn nothing_after_the_end()
     ensures { (old : Lexer) (item : Option TokenItem) (new : Lexer) →
         HasEnded old → GivesItem old item new → (item ≡ None) × HasEnded new }
 {}

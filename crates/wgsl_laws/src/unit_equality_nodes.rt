@@ -1,5 +1,5 @@
-//! Written by tools/tables/node_laws.py from crates/wgsl_model/nodes: `==` of modules, of their directives
-//! and of their declarations.
+//! Written by tools/tables/node_laws.py from crates/wgsl_model/nodes: `==` of modules, of their
+//! directives and of their declarations.
 
 ghost use Rattle.std.specs.Cmp.{IsEquivalence};
 ghost use Rattle.std.specs.Prelude.{IsTrue, ◌↔◌, ◌≡◌};

@@ -62,7 +62,7 @@ pub goes_over : (n : ℕ) (text body over : List ℕ) → text ≡ 47 ∷ (42 �
     → after_trivia (in_block n) over ≡ after_trivia (in_block n) text
 goes_over n text body over e l = l.block body (suc n) e ∙ goes_in n text body e
 
--- where nothing is left it is the same wherever one stands
+-- where nothing is left it is the same wherever one is
 pub none_left : (p q : Place) (cs : List ℕ) → cs ≡ [] → after_trivia p cs ≡ after_trivia q cs
 unfolding after_trivia
 none_left p q [] e = refl

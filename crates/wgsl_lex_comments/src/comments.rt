@@ -14,9 +14,10 @@ use wgsl_lex_scanner::trivia::{Piece, piece_at};
 /// A comment, by places in the source.
 #[derive(Clone, Copy)]
 struct Comment {
-    /// Where its first character stands.
+    /// Where its first character is.
     start: usize,
-    /// Where it ends: behind the `*/` that closes it, at the line break, or at the end of the source.
+    /// Where it ends: after the `*/` that closes it, at the line break, or at the end of the
+    /// source.
     end: usize,
 }
 
@@ -24,8 +25,8 @@ struct Comment {
 #[derive(Clone, Copy)]
 pub(crate) struct Known {
     comment: Comment,
-    /// Where the blank space and the comments behind it end.
-    behind: usize,
+    /// Where the blank space and the comments after it end.
+    following: usize,
 }
 
 /// The comments that were passed over.
@@ -47,12 +48,8 @@ impl Comments {
         }
     }
 
-    /// The text behind the blank space and the comments at the front of a text that ends the source.
-    pub fn behind_trivia<'s>(
-        &mut self,
-        source: &'s str,
-        text: &'s str,
-    ) -> Result<&'s str, AllocError>
+    /// The text after the blank space and the comments at the front of a text that ends the source.
+    pub fn skip_trivia<'s>(&mut self, source: &'s str, text: &'s str) -> Result<&'s str, AllocError>
         requires end { (before : List ℕ) × (chars source.now ≡ before ++ chars text.now) }
         requires known { AreComments (chars source.now) self.old.found.items }
         ensures known { IfOk result (λ _. AreComments (chars source.now) self.new.found.items) }
@@ -61,19 +58,19 @@ impl Comments {
         ensures within { IfOk result (λ rest. length rest.now ≤ length text.now) }
     {
         self.run.clear();
-        let behind = walk(&self.found, &mut self.run, source, text)?;
-        self.keep(behind)?;
-        Ok(text_at(source, behind))
+        let following = walk(&self.found, &mut self.run, source, text)?;
+        self.keep(following)?;
+        Ok(text_at(source, following))
     }
 
-    /// Adds the comments of the run, behind which all blank space and comments end at one place.
-    fn keep(&mut self, behind: usize) -> Result<(), AllocError>
-        ensures { (source rest : List ℕ) → BeginsAt source behind rest →
+    /// Adds the comments of the run, after which all blank space and comments end at one place.
+    fn keep(&mut self, following: usize) -> Result<(), AllocError>
+        ensures { (source rest : List ℕ) → BeginsAt source following rest →
             AreComments source self.old.found.items → AreLeft source rest self.old.run.items →
             IfOk result (λ _. AreComments source self.new.found.items) }
     {
         while let Some(comment) = self.run.pop() {
-            add(&mut self.found, Known { comment, behind })?;
+            add(&mut self.found, Known { comment, following })?;
         }
         Ok(())
     }
@@ -104,8 +101,8 @@ fn walk(
     requires end { EndsWith (chars source.now) (chars text.now) }
     requires known { AreComments (chars source.now) known.now }
     requires empty { run.old.items ≡ [] }
-    ensures behind { IfOk result (λ behind.
-        BeginsAt (chars source.now) behind (after_trivia outside (chars text.now))) }
+    ensures following { IfOk result (λ following.
+        BeginsAt (chars source.now) following (after_trivia outside (chars text.now))) }
     ensures run { IfOk result (λ _.
         AreLeft (chars source.now) (after_trivia outside (chars text.now)) run.new.items) }
 {
@@ -116,7 +113,7 @@ fn walk(
             continue;
         }
         if let Some(found) = find(known, source, rest) {
-            return Ok(found.behind);
+            return Ok(found.following);
         }
         rest = over_new(known, run, source, rest, piece)?;
     }
@@ -179,7 +176,7 @@ fn find(known: &[Known], source: &str, text: &str) -> Option<Known>
     }
 }
 
-/// The text behind the known comment that begins a text.
+/// The text after the known comment that begins a text.
 pub(crate) fn over_known<'s>(known: &[Known], source: &'s str, text: &str) -> Option<&'s str>
     requires end { EndsWith (chars source.now) (chars text.now) }
     requires known { AreComments (chars source.now) known.now }

@@ -80,7 +80,7 @@ chars-last_taken text rest P (Some c) same h t r = chars-before_last text rest c
 
 -- ---- a first byte of ASCII
 
--- the text may be cut behind it, and it is the first character
+-- the text may be cut after it, and it is the first character
 pub first_ascii : (text : List ℕ) (b : ℕ) → Some b ≡ slice_get text 0 → b < 128 → IsUtf8 text
     → IsCharBoundary text 1 × (chars text ≡ b ∷ chars (drop 1 text))
 first_ascii [] b e low t = absurd (cc)

@@ -273,7 +273,7 @@ unfolding skip_while
 run_one p true ps c cs e step rest = stays ps (first_nullable ps) c cs (step c e) refl ∙ rest ∙ rw e refl
 run_one p false ps c cs e step rest = rw e refl
 
--- patterns that stay as they are over the characters of a run go on behind the run
+-- patterns that stay as they are over the characters of a run go on after the run
 pub longest-run : (p : ℕ → Bool) (ps : List (Pattern × ℕ)) → ((c : ℕ) → p c ≡ true → after_each c ps ≡ ps)
     → (s : List ℕ) → longest_of ps s ≡ longest_of ps (skip_while p s)
 unfolding skip_while

@@ -6,7 +6,7 @@ use Rattle.wgsl_model.specs.Tokens.Raw.{invalid, front, kind_of_spelling, spelle
 use Rattle.wgsl_model.specs.Tokens.Spelling.{spelling}
 use Rattle.wgsl_model.proofs.Tokens.Fronts.{front-append}
 
--- what stands before a rest is a front
+-- what is before a rest is a front
 pub front-whole : (xs text rest : List ℕ) → text ≡ xs ++ rest → text ≡ front text rest ++ rest
 front-whole xs text rest e = e ∙ ap (λ zs. zs ++ rest) (sym (ap (λ t. front t rest) e ∙ front-append xs rest))
 

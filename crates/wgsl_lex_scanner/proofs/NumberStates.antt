@@ -20,53 +20,53 @@ numbers = (whole_number empty, AbstractInt) ∷ (whole_number i_suffix, I32)
     ∷ (whole_number u_suffix, U32) ∷ (abstract_float, AbstractFloat) ∷ (pattern.float f_suffix, F32)
     ∷ (pattern.float h_suffix, F16) ∷ []
 
--- ---- what is left of them: behind characters that stand for all that lead there
+-- ---- what is left of them: after characters that stand for all that lead there
 
--- behind a digit that is not `0`
+-- after a digit that is not `0`
 abbrev pub digits_left : List (Pattern × ℕ)
 digits_left = after_each 49 numbers
 
--- behind `.`
+-- after `.`
 abbrev pub point_left : List (Pattern × ℕ)
 point_left = after_each 46 numbers
 
--- behind `0`
+-- after `0`
 abbrev pub zero_left : List (Pattern × ℕ)
 zero_left = after_each 48 numbers
 
--- behind `0` and a digit
+-- after `0` and a digit
 abbrev zero_digits_left : List (Pattern × ℕ)
 zero_digits_left = after_each 49 zero_left
 
--- behind a point with a digit before or behind it
+-- after a point with a digit before or after it
 abbrev fraction_left : List (Pattern × ℕ)
 fraction_left = after_each 46 digits_left
 
--- behind the letter of an exponent
+-- after the letter of an exponent
 abbrev exponent_left : List (Pattern × ℕ)
 exponent_left = after_each 101 fraction_left
 
--- behind its sign
+-- after its sign
 abbrev sign_left : List (Pattern × ℕ)
 sign_left = after_each 43 exponent_left
 
--- behind its first digit
+-- after its first digit
 abbrev exponent_digits_left : List (Pattern × ℕ)
 exponent_digits_left = after_each 49 sign_left
 
--- behind `0x`
+-- after `0x`
 abbrev hexadecimal_left : List (Pattern × ℕ)
 hexadecimal_left = after_each 120 zero_left
 
--- behind a hexadecimal digit
+-- after a hexadecimal digit
 abbrev hexadecimal_digits_left : List (Pattern × ℕ)
 hexadecimal_digits_left = after_each 49 hexadecimal_left
 
--- behind `0x.`
+-- after `0x.`
 abbrev hexadecimal_point_left : List (Pattern × ℕ)
 hexadecimal_point_left = after_each 46 hexadecimal_left
 
--- behind a point with a hexadecimal digit before or behind it
+-- after a point with a hexadecimal digit before or after it
 abbrev hexadecimal_fraction_left : List (Pattern × ℕ)
 hexadecimal_fraction_left = after_each 46 hexadecimal_digits_left
 
@@ -151,7 +151,7 @@ pub point-longest : (s : List ℕ) → longest_of point_left s ≡ point s
 point-longest [] = longest-nil point_left
 point-longest (c ∷ cs) = point-one (is_ascii_digit c) c cs refl
 
--- behind `.`, where it is a symbol
+-- after `.`, where it is a symbol
 abbrev pub period_left : List (Pattern × ℕ)
 period_left = (empty, SymPeriod) ∷ []
 
@@ -170,7 +170,7 @@ pub point_or_period-longest : (s : List ℕ)
 point_or_period-longest [] = longest-nil point_or_period_left
 point_or_period-longest (c ∷ cs) = point_or_period-one (is_ascii_digit c) c cs refl
 
--- behind the digits that begin a float, or a whole number
+-- after the digits that begin a float, or a whole number
 zero_digits-step : (c : ℕ) → is_ascii_digit c ≡ true → after_each c zero_digits_left ≡ zero_digits_left
 zero_digits-step c h =
     let o = other_than is_ascii_digit c h in

@@ -152,7 +152,7 @@ digits_value-run p radix same n [] = refl
 digits_value-run p radix same n (c ∷ cs) = read_digits_one p radix (p c) n c cs refl (same c)
     (digits_value-run p radix same (n * radix + digit_value c) cs)
 
--- digits behind a front, as the scanner skips them
+-- digits after a front, as the scanner skips them
 run_and_rest : (p : ℕ → Bool) (radix : ℕ) (front s : List ℕ) → ((c : ℕ) → is_digit c radix ≡ p c)
     → (front ++ run_of p s) ++ skip_digits radix s ≡ front ++ s
 run_and_rest p radix front s same =
@@ -160,7 +160,7 @@ run_and_rest p radix front s same =
     ∙ ap (λ t. front ++ (run_of p s ++ t)) (skip_digits-is p radix same s)
     ∙ ap (λ x. front ++ x) (sym (run_is p s))
 
--- a whole number behind a front whose digits have a value, or a float
+-- a whole number after a front whose digits have a value, or a float
 digits-valued : (p : ℕ → Bool) (radix : ℕ) (front s : List ℕ) (n : ℕ) (o : Option (ℕ × List ℕ))
     → ((c : ℕ) → is_digit c radix ≡ p c) → number_value (front ++ run_of p s) ≡ n
     → IsValued (front ++ s) (float_or o n (skip_digits radix s))
@@ -313,7 +313,7 @@ point_found (Some (class, rest)) cs found e h =
     (read_number 46 cs point_left ((float class), rest) (λ w k. value-point w class k)
     (after_point cs (Some (class, rest)) e) (point-longest cs ∙ e) refl)
 
--- `.` with no digit behind it is a symbol
+-- `.` with no digit after it is a symbol
 pub point_alone : (cs : List ℕ) → point cs ≡ None → after_spelling spelling (46 ∷ cs) ≡ Some cs
 point_alone cs e = after_point cs None e
 

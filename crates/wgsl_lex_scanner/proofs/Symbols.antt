@@ -112,7 +112,7 @@ doubled-read c twice equal alone s own other other' e l m n (d ∷ ds) =
     stays (doubled_left c) c (d ∷ ds) alone s e (after_spelling-stop (doubled_left c) d ds
     (rw (no_own, no_equal) refl) refl) l ∙ rw (no_own, no_equal) refl))
 
--- ---- behind `<` or `>`
+-- ---- after `<` or `>`
 
 abbrev angle_left : ℕ → Pattern
 angle_left c = either empty (either (code 61) (either (code c) (both (code c) (code 61))))
@@ -157,7 +157,7 @@ angle-read c shift_assign shift equal alone s own other e f l m n o (d ∷ ds) =
     stays (angle_left c) c (d ∷ ds) alone s e (after_spelling-stop (angle_left c) d ds
     (rw (no_own, no_equal) refl) refl) l ∙ rw (no_own, no_equal) refl))
 
--- ---- behind `-`
+-- ---- after `-`
 
 sign_45 : IsSign 45
 sign_45 = sign 45 (lit< tt) refl refl refl refl refl
@@ -180,7 +180,7 @@ minus-read (d ∷ ds) =
 
 -- ---- all of them
 
--- What the scanner reads where no word and no number begins, and no `.` stands, is what the
+-- What the scanner reads where no word and no number begins, and no `.` is, is what the
 -- definition says.
 pub symbol-read : (c : ℕ) (cs : List ℕ) → is_xid_start c ≡ false → is_ascii_digit c ≡ false
     → (c == 95) ≡ false → (c == 46) ≡ false → IsRead c cs

@@ -88,7 +88,7 @@ after_spelling-run_one p true r c cs e step n rest =
     ∙ rw (step c e, n) (first_or (after_spelling r cs) (Some (c ∷ cs)) found.0 found.1) ∙ rest ∙ rw e refl
 after_spelling-run_one p false r c cs e step n rest = rw e refl
 
--- a pattern that stays as it is over the characters of a run goes on behind the run
+-- a pattern that stays as it is over the characters of a run goes on after the run
 pub after_spelling-run : (p : ℕ → Bool) (r : Pattern) → ((c : ℕ) → p c ≡ true → after c r ≡ r)
     → nullable r ≡ true → (s : List ℕ) → after_spelling r s ≡ after_spelling r (skip_while p s)
 unfolding skip_while

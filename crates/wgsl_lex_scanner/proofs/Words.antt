@@ -29,7 +29,7 @@ word-longest : (s : List ℕ) → after_spelling word_left s ≡ Some (after_wor
 word-longest s = after_spelling-run is_xid_continue word_left (λ c h. rw h refl) refl s
     ∙ word_ends (after_word s) (past is_xid_continue s)
 
--- behind `_`: more of a word, or nothing
+-- after `_`: more of a word, or nothing
 abbrev underscore_left : Pattern
 underscore_left = either (both (one is_xid_continue) (any is_xid_continue)) empty
 

@@ -41,26 +41,26 @@ abbrev pub float_suffix : List ℕ → ℕ × List ℕ
 float_suffix [] = (AbstractFloat, [])
 float_suffix (c ∷ cs) = if c == 102 then (F32, cs) else if c == 104 then (F16, cs) else (AbstractFloat, c ∷ cs)
 
--- behind the sign of an exponent
+-- after the sign of an exponent
 abbrev pub exponent_digits : List ℕ → Option (ℕ × List ℕ)
 exponent_digits [] = None
 exponent_digits (c ∷ cs) = if is_digit c 10 then Some (float_suffix (skip_digits 10 cs)) else None
 
--- behind the letter of an exponent
+-- after the letter of an exponent
 abbrev pub scan_exponent : List ℕ → Option (ℕ × List ℕ)
 scan_exponent [] = None
 scan_exponent (c ∷ cs) = if is_sign c then exponent_digits cs else exponent_digits (c ∷ cs)
 
--- behind the digits behind a point
+-- after the digits after a point
 abbrev pub fraction_end : List ℕ → ℕ × List ℕ
 fraction_end [] = (AbstractFloat, [])
 fraction_end (c ∷ cs) = if is_e c then unwrap_or (scan_exponent cs) (AbstractFloat, c ∷ cs) else float_suffix (c ∷ cs)
 
--- behind a point
+-- after a point
 abbrev pub fraction : List ℕ → ℕ × List ℕ
 fraction text = fraction_end (skip_digits 10 text)
 
--- behind the digits that begin a float
+-- after the digits that begin a float
 abbrev pub decimal_float : List ℕ → Option (ℕ × List ℕ)
 decimal_float [] = None
 decimal_float (c ∷ cs) =
@@ -70,28 +70,28 @@ decimal_float (c ∷ cs) =
     else if c == 104 then Some (F16, cs)
     else None
 
--- behind a point with no digit before it
+-- after a point with no digit before it
 abbrev pub point : List ℕ → Option (ℕ × List ℕ)
 point [] = None
 point (c ∷ cs) = if is_digit c 10 then Some (fraction cs) else None
 
--- behind the hexadecimal digits behind a point
+-- after the hexadecimal digits after a point
 abbrev pub hexadecimal_fraction_end : List ℕ → ℕ × List ℕ
 hexadecimal_fraction_end [] = (AbstractFloat, [])
 hexadecimal_fraction_end (c ∷ cs) = if is_p c
     then unwrap_or (scan_exponent cs) (AbstractFloat, c ∷ cs) else (AbstractFloat, c ∷ cs)
 
--- behind a point among hexadecimal digits
+-- after a point among hexadecimal digits
 abbrev pub hexadecimal_fraction : List ℕ → ℕ × List ℕ
 hexadecimal_fraction text = hexadecimal_fraction_end (skip_digits 16 text)
 
--- behind the hexadecimal digits that begin a float
+-- after the hexadecimal digits that begin a float
 abbrev pub hexadecimal_float : List ℕ → Option (ℕ × List ℕ)
 hexadecimal_float [] = None
 hexadecimal_float (c ∷ cs) = if c == 46 then Some (hexadecimal_fraction cs) else if is_p c
     then scan_exponent cs else None
 
--- behind a point with no hexadecimal digit before it
+-- after a point with no hexadecimal digit before it
 abbrev pub hexadecimal_point : List ℕ → Option (ℕ × List ℕ)
 hexadecimal_point [] = None
 hexadecimal_point (c ∷ cs) = if is_digit c 16 then Some (hexadecimal_fraction cs) else None
@@ -111,15 +111,15 @@ abbrev pub float_or : Option (ℕ × List ℕ) → ℕ → List ℕ → NumericL
 float_or None n text = suffixed n text
 float_or (Some found) n text = as_float found
 
--- behind the digits of a float, or behind those of a whole number of a value
+-- after the digits of a float, or after those of a whole number of a value
 abbrev pub decimal : List ℕ → ℕ → List ℕ → NumericLiteral × List ℕ
 decimal digits_rest n whole_rest = float_or (decimal_float digits_rest) n whole_rest
 
--- behind hexadecimal digits of a value
+-- after hexadecimal digits of a value
 abbrev pub hexadecimal_end : ℕ → List ℕ → NumericLiteral × List ℕ
 hexadecimal_end n text = float_or (hexadecimal_float text) n text
 
--- behind `0x`
+-- after `0x`
 abbrev pub scan_hexadecimal : List ℕ → Option (NumericLiteral × List ℕ)
 scan_hexadecimal [] = None
 scan_hexadecimal (c ∷ cs) =
@@ -131,14 +131,14 @@ scan_hexadecimal (c ∷ cs) =
 abbrev pub zero_alone : List ℕ → NumericLiteral × List ℕ
 zero_alone text = (integer AbstractInt (number_below AbstractInt (2 ^ 63) 0), text)
 
--- behind a first digit `0`
+-- after a first digit `0`
 abbrev pub after_zero : List ℕ → NumericLiteral × List ℕ
 after_zero [] = decimal (skip_digits 10 []) 0 []
 after_zero (c ∷ cs) =
     if is_x c then unwrap_or (scan_hexadecimal cs) (zero_alone (c ∷ cs))
     else decimal (skip_digits 10 (c ∷ cs)) 0 (c ∷ cs)
 
--- behind a first character
+-- after a first character
 abbrev pub number : ℕ → List ℕ → Option (NumericLiteral × List ℕ)
 number c cs =
     if c == 46 then as_optional_float (point cs)

@@ -27,7 +27,7 @@ doubled own twice equal alone [] = (alone, [])
 doubled own twice equal alone (c ∷ cs) = if c == own then (twice, cs) else if c == 61
     then (equal, cs) else (alone, c ∷ cs)
 
--- behind `-`
+-- after `-`
 abbrev pub minus : List ℕ → ℕ × List ℕ
 minus [] = (SymMinus, [])
 minus (c ∷ cs) =
@@ -36,7 +36,7 @@ minus (c ∷ cs) =
     else if c == 61 then (SymMinusEqual, cs)
     else (SymMinus, c ∷ cs)
 
--- behind `<` or `>`
+-- after `<` or `>`
 abbrev pub angle : ℕ → ℕ → ℕ → ℕ → ℕ → List ℕ → ℕ × List ℕ
 angle own shift_assign shift equal alone [] = (alone, [])
 angle own shift_assign shift equal alone (c ∷ cs) =

@@ -49,15 +49,15 @@ IsStep text (step.Goes after) =
 IsStep text (step.Opens body) = text ≡ 47 ∷ (42 ∷ chars body.now)
 IsStep text (step.Closes outer) = text ≡ 42 ∷ (47 ∷ chars outer.now)
 
--- of a text of so many bytes fewer are left after it
+-- of a text of a number of bytes fewer are left after it
 abbrev pub IsShorterStep : ℕ → Step → Type 0
 IsShorterStep n (step.Ends) = ⊤
 IsShorterStep n (step.Goes rest) = length rest.now < n
 IsShorterStep n (step.Opens rest) = length rest.now < n
 IsShorterStep n (step.Closes rest) = length rest.now < n
 
--- what follows the end of a block comment that is open in so many others, or none where it is not
--- closed
+-- what follows the end of a block comment that is open in a number of others, or none where it is
+-- not closed
 unfoldable pub after_block : ℕ → List ℕ → Option (List ℕ)
 after_block n [] = None
 after_block n (c ∷ []) = None

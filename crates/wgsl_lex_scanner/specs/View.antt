@@ -28,7 +28,7 @@ scanned_view NoneLeft = none_left
 scanned_view (Invalid from after) = invalid (chars from.now) (chars after.now)
 scanned_view (Found lexeme from after) = token (lexeme_view lexeme) (chars from.now) (chars after.now)
 
--- of a text of so many bytes fewer are left after the token, and no more from its start
+-- of a text of a number of bytes fewer are left after the token, and no more from its start
 abbrev pub IsShorter : ℕ → Scanned → Type 0
 IsShorter n NoneLeft = ⊤
 IsShorter n (Invalid from after) = (length from.now ≤ n) × (length after.now < n)

@@ -1,4 +1,4 @@
--- The table of keywords and reserved words: what its entries say, and where a word stands in it if
+-- The table of keywords and reserved words: what its entries say, and where a word is in it if
 -- it is one of them.
 use Rattle.std.specs.Prelude.{ℕ, Bool, true, false, ◌==◌, ◌&&◌, List, ◌≡◌, ◌+◌, ◌*◌, ◌-◌, ◌/◌, ◌%◌, length, slice_index, slice_index_or, Option, Some, None, is_none, bytes_eq}
 use Rattle.std.specs.List.{list_all}
@@ -56,11 +56,11 @@ says (meaning.Reserved) word = is_none (look_up keywords word) && is_word_among 
 unfoldable pub EntriesHold : List Entry → Type 0
 EntriesHold table = list_all (λ (e : Entry). says e.1 e.0.now) table ≡ true
 
--- a word stands at its place
+-- a word is at its place
 abbrev pub stands : List Entry → Entry → List ℕ → Bool
 stands table d word = bytes_eq (slice_index_or table (slot_of word) d).0.now word
 
--- each keyword and each reserved word stands at its place
+-- each keyword and each reserved word is at its place
 unfoldable pub HoldsAllWords : List Entry → Type 0
 HoldsAllWords table = (d : Entry) → (list_all (λ (e : List ℕ × ℕ). stands table d e.0) keywords
     && list_all (λ word. stands table d word) reserved_words) ≡ true

@@ -5,7 +5,7 @@ ghost use Rattle.std.specs.Char.{is_ascii_alphanumeric, is_ascii_digit};
 ghost use Rattle.unicode_ident.specs.Ident.{is_xid_start};
 ghost use Rattle.wgsl_model.specs.Tokens.Characters.{is_blank, is_line_break};
 
-// Each byte that is a character of a word stands at its own place, and a dot at every other place.
+// Each byte that is a character of a word is at its own place, and a dot at every other place.
 static WORD_BYTES: [u8; 256] = *b"\
     ................................\
     ................0123456789......\

@@ -17,7 +17,7 @@ fn with_digit(value: Option<u64>, radix: u32, digit: u32) -> Option<u64>
         .checked_add(u64::from(digit))
 }
 
-/// The value of the digits behind a first one, unless it passes 64 bits, and what follows them.
+/// The value of the digits after a first one, unless it passes 64 bits, and what follows them.
 #[tactic(auto, unfolding(crate::specs::Digits::skip_while, crate::specs::Digits::read_digits))]
 pub(crate) fn read_digits(first: u32, radix: u32, text: &str) -> (Option<u64>, &str)
     requires low { 2 ≤ radix }

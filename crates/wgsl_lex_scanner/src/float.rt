@@ -1,4 +1,4 @@
-//! Floats: their parts behind the first digits.
+//! Floats: their parts after the first digits.
 
 ghost use Rattle.std.specs.Prelude.{◌≡◌, ◌≤◌, chars, length, IfSome, Some};
 ghost use Rattle.wgsl_lex_scanner.specs.ScannedNumbers.{number_by_class, float_suffix, exponent_digits, scan_exponent, fraction, decimal_float, point, hexadecimal_fraction, hexadecimal_float, hexadecimal_point};
@@ -43,7 +43,7 @@ fn float_suffix(text: &str) -> (FloatType, &str)
     }
 }
 
-/// A float behind the sign of its exponent, none where no digit follows.
+/// A float after the sign of its exponent, none where no digit follows.
 fn exponent_digits(text: &str) -> Option<(FloatType, &str)>
     ensures value { optional_float_view result ≡ exponent_digits (chars text.now) }
     ensures within { IfSome result (λ found. length found.1.now ≤ length text.now) }
@@ -55,7 +55,7 @@ fn exponent_digits(text: &str) -> Option<(FloatType, &str)>
     Some(float_suffix(skip_digits(10, after)))
 }
 
-/// A float behind the letter of its exponent, none where the exponent has no digit.
+/// A float after the letter of its exponent, none where the exponent has no digit.
 fn exponent(text: &str) -> Option<(FloatType, &str)>
     ensures value { optional_float_view result ≡ scan_exponent (chars text.now) }
     ensures within { IfSome result (λ found. length found.1.now ≤ length text.now) }
@@ -66,7 +66,7 @@ fn exponent(text: &str) -> Option<(FloatType, &str)>
     }
 }
 
-/// A decimal float behind its point.
+/// A decimal float after its point.
 fn fraction(text: &str) -> (FloatType, &str)
     ensures value { float_view result ≡ fraction (chars text.now) }
     ensures within { length result.1.now ≤ length text.now }
@@ -78,7 +78,7 @@ fn fraction(text: &str) -> (FloatType, &str)
     }
 }
 
-/// A decimal float behind the digits that begin it, none where they are a whole number.
+/// A decimal float after the digits that begin it, none where they are a whole number.
 pub(crate) fn decimal_float(text: &str) -> Option<(FloatType, &str)>
     ensures value { optional_float_view result ≡ decimal_float (chars text.now) }
     ensures within { IfSome result (λ found. length found.1.now ≤ length text.now) }
@@ -92,7 +92,7 @@ pub(crate) fn decimal_float(text: &str) -> Option<(FloatType, &str)>
     }
 }
 
-/// A decimal float behind the point that begins it, none where no digit follows.
+/// A decimal float after the point that begins it, none where no digit follows.
 pub(crate) fn point(text: &str) -> Option<(FloatType, &str)>
     ensures value { optional_float_view result ≡ point (chars text.now) }
     ensures within { IfSome result (λ found. length found.1.now ≤ length text.now) }
@@ -104,7 +104,7 @@ pub(crate) fn point(text: &str) -> Option<(FloatType, &str)>
     Some(fraction(after))
 }
 
-/// A hexadecimal float behind its point: a suffix follows only an exponent.
+/// A hexadecimal float after its point: a suffix follows only an exponent.
 fn hexadecimal_fraction(text: &str) -> (FloatType, &str)
     ensures value { float_view result ≡ hexadecimal_fraction (chars text.now) }
     ensures within { length result.1.now ≤ length text.now }
@@ -116,7 +116,7 @@ fn hexadecimal_fraction(text: &str) -> (FloatType, &str)
     }
 }
 
-/// A hexadecimal float behind the digits that begin it, none where they are a whole number.
+/// A hexadecimal float after the digits that begin it, none where they are a whole number.
 pub(crate) fn hexadecimal_float(text: &str) -> Option<(FloatType, &str)>
     ensures value { optional_float_view result ≡ hexadecimal_float (chars text.now) }
     ensures within { IfSome result (λ found. length found.1.now ≤ length text.now) }
@@ -128,7 +128,7 @@ pub(crate) fn hexadecimal_float(text: &str) -> Option<(FloatType, &str)>
     }
 }
 
-/// A hexadecimal float behind the point that follows `0x`, none where no digit follows.
+/// A hexadecimal float after the point that follows `0x`, none where no digit follows.
 pub(crate) fn hexadecimal_point(text: &str) -> Option<(FloatType, &str)>
     ensures value { optional_float_view result ≡ hexadecimal_point (chars text.now) }
     ensures within { IfSome result (λ found. length found.1.now ≤ length text.now) }

@@ -85,7 +85,7 @@ fn suffixed(value: Option<u64>, text: &str) -> (NumericLiteral, &str)
     }
 }
 
-/// A decimal number behind its digits: those of a float, or those of a whole number of a value.
+/// A decimal number after its digits: those of a float, or those of a whole number of a value.
 fn decimal<'s>(
     digits_rest: &'s str,
     value: Option<u64>,
@@ -102,7 +102,7 @@ fn decimal<'s>(
     }
 }
 
-/// A hexadecimal number behind `0x`, none where no digit follows.
+/// A hexadecimal number after `0x`, none where no digit follows.
 fn hexadecimal(text: &str) -> Option<(NumericLiteral, &str)>
     ensures value { optional_number_view result ≡ scan_hexadecimal (chars text.now) }
     ensures within { IfSome result (λ found. length found.1.now ≤ length text.now) }
@@ -119,7 +119,7 @@ fn hexadecimal(text: &str) -> Option<(NumericLiteral, &str)>
     }
 }
 
-/// A number behind a first digit `0`: the digits that follow belong to it only where it is a float.
+/// A number after a first digit `0`: the digits that follow belong to it only where it is a float.
 fn after_zero(text: &str) -> (NumericLiteral, &str)
     ensures value { number_and_rest result ≡ after_zero (chars text.now) }
     ensures within { length result.1.now ≤ length text.now }
@@ -134,7 +134,7 @@ fn after_zero(text: &str) -> (NumericLiteral, &str)
 }
 
 /// The number that begins with a digit or a point, and the text after it; none where no number does.
-fn number_behind(c: char, text: &str) -> Option<(NumericLiteral, &str)>
+fn number_after(c: char, text: &str) -> Option<(NumericLiteral, &str)>
     ensures value { optional_number_view result ≡ number c (chars text.now) }
     ensures within { IfSome result (λ found. length found.1.now ≤ length text.now) }
 {
@@ -155,7 +155,7 @@ pub(crate) fn number(c: char, text: &str) -> Option<(NumericLiteral, &str)>
     ensures within { IfSome result (λ found. length found.1.now ≤ length text.now) }
 {
     if begins_number(c) {
-        return number_behind(c, text);
+        return number_after(c, text);
     }
     None
 }

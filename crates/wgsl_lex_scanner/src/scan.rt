@@ -14,7 +14,7 @@ use crate::text::{before, split_first};
 use crate::trivia::after_trivia;
 use crate::word::{after_word, word};
 
-/// What stands at the front of a text, behind its trivia: the text from there, and the text after it.
+/// What is at the front of a text, after its trivia: the text from there, and the text after it.
 #[derive(Clone, Copy, Debug, PartialEq)]
 pub enum Scanned<'s> {
     NoneLeft,
@@ -76,7 +76,7 @@ pub fn scan(text: &str) -> Scanned<'_>
     scan_at(after_trivia(text))
 }
 
-/// The place of the rest of a source of so many bytes.
+/// The place of the rest of a source of a number of bytes.
 pub fn place(total: usize, rest: &str) -> usize
     ensures { result ≡ total - length (encode_utf8_all (chars rest.now)) }
 {

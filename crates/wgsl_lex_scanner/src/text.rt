@@ -20,7 +20,7 @@ pub fn split_first(text: &str) -> Option<(char, &str)>
     Some((first, rest.as_str()))
 }
 
-/// What stands before the rest of a text.
+/// What is before the rest of a text.
 pub(crate) fn before<'s>(text: &'s str, rest: &str) -> &'s str
     requires { chars text.now ≡ front (chars text.now) (chars rest.now) ++ chars rest.now }
     ensures value { chars result.now ≡ front (chars text.now) (chars rest.now) }

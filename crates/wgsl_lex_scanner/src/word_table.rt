@@ -1,4 +1,5 @@
-//! Keywords and reserved words, and the place of each: tables written by tools/tables/word_table.py.
+//! Keywords and reserved words, and the place of each: tables written by
+//! tools/tables/word_table.py.
 
 ghost use Rattle.std.specs.Prelude.{◌≡◌, ◌<◌, length, Some, None, false, bytes_eq};
 ghost use Rattle.wgsl_lex_scanner.specs.WordTable.{kind_of_name, meant, moved, slot_by, EntriesHold, HoldsAllWords};
@@ -223,7 +224,8 @@ fn moved(first: u8, size: usize) -> u8
     MOVES[(first as usize + 2 * size) % 64]
 }
 
-/// Where a word stands among the words, by its length and three of its characters, if it is one of them.
+/// Where a word is among the words, by its length and three of its characters, if it is one of
+/// them.
 fn place(size: usize, first: u8, middle: u8, last: u8) -> usize
     requires { size < 64 }
     ensures value { result ≡ slot_by size first middle last }

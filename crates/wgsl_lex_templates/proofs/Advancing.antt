@@ -1,4 +1,4 @@
--- What is left behind each rule of expressions.
+-- What is left after each rule of expressions.
 pub mod Rules
 pub mod Walks
 pub mod Repeats

@@ -1,4 +1,4 @@
--- What is read behind a `<`, a token or a list after the other.
+-- What is read after a `<`, a token or a list after the other.
 pub mod Names
 pub mod Turns
 pub mod Pushes

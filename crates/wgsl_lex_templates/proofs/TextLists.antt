@@ -1,4 +1,4 @@
--- Where the lists of a text stand, found one `<` after the other from the right.
+-- Where the lists of a text are, found one `<` after the other from the right.
 pub mod Begun
 pub mod Fronts
 pub mod Scans

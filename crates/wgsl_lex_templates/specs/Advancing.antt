@@ -1,4 +1,4 @@
--- Which tokens are left behind a part of the grammar, by the classes of the tokens alone.
+-- Which tokens are left after a part of the grammar, by the classes of the tokens alone.
 use Rattle.std.specs.Prelude.{◌≡◌, ℕ, zero, suc, Bool, false, cond, eqb, List, [], ◌∷◌, length, map, Option, Some, None}
 use Rattle.std.specs.Borrow.{Bor}
 use Rattle.grammar.specs.Tokens.{Payload.nothing, Token}
@@ -12,7 +12,7 @@ use Rattle.wgsl_lex_token.specs.declared.kind_table.TokenKind.{TokenKind}
 use Rattle.wgsl_lex_token.specs.View.{classes}
 use Rattle.wgsl_lex_templates.specs.ExpressionLists.{classes_of}
 
--- a token of a class that holds nothing and stands nowhere
+-- a token of a class that holds nothing and is nowhere
 abbrev pub token_of_class : ℕ → Token
 token_of_class class = record { class = class; payload = nothing; start = 0; end = 0 }
 
@@ -23,7 +23,7 @@ classes_left (stuck us) = None
 classes_left (bad x us) = None
 classes_left out = None
 
--- the classes that are left behind what a symbol reads
+-- the classes that are left after what a symbol reads
 unfoldable pub advances : FactoredSymbol → List ℕ → Option (List ℕ)
 advances n cs = classes_left (read_all tables checking body rank_limit n (map token_of_class cs))
 
@@ -33,7 +33,7 @@ abbrev pub ◌>>=◌ : Option (List ℕ) → (List ℕ → Option (List ℕ)) �
 None >>= f = None
 (Some cs) >>= f = f cs
 
--- what goes on behind a part, or what there is where that part does not stand
+-- what goes on after a part, or what there is where that part is not
 abbrev pub if_there : Option (List ℕ) → (List ℕ → Option (List ℕ)) → Option (List ℕ) → Option (List ℕ)
 if_there None f other = other
 if_there (Some cs) f other = f cs
@@ -53,7 +53,7 @@ abbrev pub is_next : List ℕ → List ℕ → Bool
 is_next s [] = false
 is_next s (c ∷ cs) = is_among c s
 
--- so many parts at most, as long as the next token is of these classes
+-- a number of parts at most, as long as the next token is of these classes
 abbrev pub turns_in : ℕ → List ℕ → (List ℕ → Option (List ℕ)) → List ℕ → Option (List ℕ)
 turns_in zero s part cs = cond (is_next s cs) None (Some cs)
 turns_in (suc k) s part cs = cond (is_next s cs) (part cs >>= turns_in k s part) (Some cs)

@@ -15,7 +15,7 @@ abbrev pub IsEntry : List Entry → ℕ → Finding → Type 0
 IsEntry entries start finding = (i : ℕ) × (i < length entries)
     × ((d : Entry) → get_or entries i d ≡ record { start = start; finding = finding })
 
--- a list ends at the rest whose `<` stands before the text, or none begins there
+-- a list ends at the rest whose `<` is before the text, or none begins there
 abbrev pub IsListOrNone : Bool → ℕ → List ℕ → List ℕ → Type 0
 IsListOrNone true total text rest = EndsAt total text rest
 IsListOrNone false total text rest = HasNoEnd total text

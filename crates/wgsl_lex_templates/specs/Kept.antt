@@ -15,13 +15,13 @@ value before (Token kind) = class_of_kind kind ∷ []
 value before (Stretch start end) = values_between before start end
 
 -- those of each piece, where those of each piece before them are known
-abbrev pub values_behind : List (List ℕ) → List Piece → List (List ℕ)
-values_behind before [] = []
-values_behind before (piece ∷ pieces) = value before piece ∷ values_behind (before ++ value before piece ∷ []) pieces
+abbrev pub values_after : List (List ℕ) → List Piece → List (List ℕ)
+values_after before [] = []
+values_after before (piece ∷ pieces) = value before piece ∷ values_after (before ++ value before piece ∷ []) pieces
 
 -- all classes of the pieces from one place up to another
 abbrev pub held : List Piece → ℕ → ℕ → List ℕ
-held pieces start end = values_between (values_behind [] pieces) start end
+held pieces start end = values_between (values_after [] pieces) start end
 
 -- a piece at a place stands for none from there on
 abbrev pub is_earlier : ℕ → Piece → Bool

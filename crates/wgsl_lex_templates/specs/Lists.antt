@@ -7,20 +7,20 @@ use Rattle.wgsl_model.specs.Tokens.Places.{place}
 use Rattle.wgsl_span.specs.declared.Span.{Span}
 use Rattle.wgsl_lex_templates.specs.Spans.{end_from}
 
--- a text that ends a source of so many bytes begins with a template list, and the text behind the
--- list begins at the end
+-- a text that ends a source of a number of bytes begins with a template list, and the text after
+-- the list begins at the end
 abbrev pub ListEnds : ℕ → List ℕ → ℕ → Type 0
 ListEnds total text end = (ts : List Token) × (rest : List ℕ) × Template total text ts rest × (end ≡ place total rest)
 
--- the same from a `<` in the text, which stands at the start
+-- the same from a `<` in the text, which is at the start
 abbrev pub IsListIn : ℕ → List ℕ → ℕ → ℕ → Type 0
-IsListIn total text start end = (before behind : List ℕ) × (text ≡ before ++ (60 ∷ behind))
-    × (start ≡ place total (60 ∷ behind)) × ListEnds total (60 ∷ behind) end
+IsListIn total text start end = (before following : List ℕ) × (text ≡ before ++ (60 ∷ following))
+    × (start ≡ place total (60 ∷ following)) × ListEnds total (60 ∷ following) end
 
 -- of each `<` in a text, the spans tell whether a template list begins there, and where it ends
 abbrev pub TellLists : ℕ → List Span → List ℕ → Type 0
-TellLists total spans text = (before behind : List ℕ) (end : ℕ) → text ≡ before ++ (60 ∷ behind)
-    → end_from spans (place total (60 ∷ behind)) ≡ Some end ↔ ListEnds total (60 ∷ behind) end
+TellLists total spans text = (before following : List ℕ) (end : ℕ) → text ≡ before ++ (60 ∷ following)
+    → end_from spans (place total (60 ∷ following)) ≡ Some end ↔ ListEnds total (60 ∷ following) end
 
 -- this holds; how is of no account
 abbrev pub AreTold : ℕ → List Span → List ℕ → Type 0

@@ -1,4 +1,4 @@
--- What reading behind a `<` comes to.
+-- What reading after a `<` comes to.
 use Rattle.std.specs.Prelude.{◌≡◌, ◌↔◌, ⊤, ℕ, true, List, Option, Some, None, chars, length}
 use Rattle.grammar.specs.Tokens.{Token}
 use Rattle.grammar.specs.Grammar.{is_among}
@@ -19,7 +19,7 @@ use Rattle.wgsl_lex_templates.specs.Kept.{held}
 use Rattle.wgsl_lex_templates.specs.Reached.{GoesOn}
 use Rattle.wgsl_lex_templates.specs.Findings.{IsFinding, IsListOrNone}
 
--- what is known of the token of a class that stands before a text
+-- what is known of the token of a class that is before a text
 abbrev pub IsMet : ℕ → List Piece → ℕ → List ℕ → Met → Type 0
 IsMet total pieces class after met.Around = (is_among class less_signs ≡ true) × NoneAround total after
 IsMet total pieces class after (met.GoesOn is_list rest start end) =
@@ -27,7 +27,7 @@ IsMet total pieces class after (met.GoesOn is_list rest start end) =
     × GoesOn total pieces after (chars rest.now) start end
 IsMet total pieces class after met.Nothing = ⊤
 
--- what stands inside a list up to the `>`, and that tokens of the classes of what was read are a
+-- what is inside a list up to the `>`, and that tokens of the classes of what was read are a
 -- list of expressions just where that is one; or that there is no list, and as above
 abbrev pub IsReading : ℕ → List ℕ → List Piece → ℕ → Reading → Type 0
 IsReading total text pieces start (reading.Ends end) =

@@ -18,7 +18,7 @@ role class =
     else if is_among class in_no_expression then Stranger
     else Other
 
--- what a token of a role does with so many brackets open
+-- what a token of a role does with a number of brackets open
 abbrev pub turn_by : ℕ → Role → Turn
 turn_by depth Opening = Takes (suc depth)
 turn_by zero Closing = Stops

@@ -7,7 +7,7 @@ abbrev pub end_from : List Span → ℕ → Option ℕ
 end_from [] start = None
 end_from (span ∷ spans) start = if span.start == start then Some span.end else end_from spans start
 
--- a place stands before the starts of all
+-- a place is before the starts of all
 abbrev pub is_before_all : ℕ → List Span → Bool
 is_before_all start [] = true
 is_before_all start (span ∷ spans) = nat_lt start span.start && is_before_all start spans

@@ -1,4 +1,4 @@
-//! One try at a `<`: whether a template list begins there, where what stands behind it is known.
+//! One try at a `<`: whether a template list begins there, where what is after it is known.
 
 ghost use Rattle.std.specs.Prelude.{◌≡◌, ◌↔◌, ◌+◌, ◌<◌, ◌≤◌, ◌^◌, List, chars, take, drop, length, IfOk, IsTrue};
 ghost use Rattle.grammar.specs.Tokens.{Token};
@@ -25,7 +25,7 @@ use wgsl_lex_comments::Comments;
 use wgsl_lex_scanner::scan::{Scanned, place};
 use wgsl_lex_token::kind::TokenKind;
 
-/// So many kinds are no longer few. Fewer are not shortened.
+/// A number of kinds are no longer few. Fewer are not shortened.
 const FEW_KINDS: usize = 8;
 
 /// Space for the kinds of one list, used again at each, and how deep brackets may nest in it.

@@ -2,7 +2,7 @@
 
 use wgsl_lex_token::kind::TokenKind;
 
-/// Whether more than so many brackets are open at one place in tokens of these kinds.
+/// Whether more than a number of brackets are open at one place in tokens of these kinds.
 pub(crate) fn nest_deeper(kinds: &[TokenKind], depth: usize) -> bool {
     let mut open = 0usize;
     for kind in kinds {

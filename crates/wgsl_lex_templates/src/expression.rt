@@ -1,4 +1,4 @@
-//! Expressions, a function for each rule: what is left behind one at the front of the tokens.
+//! Expressions, a function for each rule: what is left after one at the front of the tokens.
 #![tactic(auto, unfolding(crate::proofs::Hints::definitions), using(crate::proofs::Hints::lemmas))]
 
 ghost use Rattle.std.specs.Prelude.{◌<◌, ◌≤◌, length, IfSome};
@@ -60,7 +60,7 @@ pub fn expression(kinds: &[TokenKind]) -> Option<&[TokenKind]>
     expression_rest(unary_expression(kinds)?)
 }
 
-/// What an expression goes on with behind its first operand.
+/// What an expression goes on with after its first operand.
 #[cycle(expression)]
 fn expression_rest(kinds: &[TokenKind]) -> Option<&[TokenKind]>
     ensures value { LeavesKinds result (advances (further expression_rest) (classes kinds.now)) }
@@ -123,7 +123,7 @@ fn relational_expression(kinds: &[TokenKind]) -> Option<&[TokenKind]>
     relation_rest(shift_expression(kinds)?)
 }
 
-/// A comparison behind its first operand, or nothing.
+/// A comparison after its first operand, or nothing.
 #[cycle(expression)]
 fn relation_rest(kinds: &[TokenKind]) -> Option<&[TokenKind]>
     ensures value { LeavesKinds result (advances (further relation_rest) (classes kinds.now)) }
@@ -145,7 +145,7 @@ fn shift_expression(kinds: &[TokenKind]) -> Option<&[TokenKind]>
     sum_rest(unary_expression(kinds)?)
 }
 
-/// A shift, or products and sums, behind its first operand, or nothing.
+/// A shift, or products and sums, after its first operand, or nothing.
 #[cycle(expression)]
 fn sum_rest(kinds: &[TokenKind]) -> Option<&[TokenKind]>
     ensures value { LeavesKinds result (advances (further sum_rest) (classes kinds.now)) }
@@ -211,7 +211,7 @@ fn singular_expression(kinds: &[TokenKind]) -> Option<&[TokenKind]>
     components(primary_expression(kinds)?)
 }
 
-/// Indices in brackets, and names behind a period.
+/// Indices in brackets, and names after a period.
 #[cycle(expression)]
 fn components(kinds: &[TokenKind]) -> Option<&[TokenKind]>
     ensures value { LeavesKinds result (advances (further components) (classes kinds.now)) }
@@ -271,8 +271,8 @@ fn template_items(kinds: &[TokenKind]) -> Option<&[TokenKind]>
 {
     let mut left = expression(kinds)?;
     'items: while let Some(next) = take(left, TokenKind::SymComma) {
-        if let Some(behind) = take(next, TokenKind::TemplateArgsEnd) {
-            return Some(behind);
+        if let Some(following) = take(next, TokenKind::TemplateArgsEnd) {
+            return Some(following);
         }
         left = expression(next)?;
     }
@@ -300,8 +300,8 @@ fn argument_rest(kinds: &[TokenKind]) -> Option<&[TokenKind]>
 {
     let mut left = kinds;
     'arguments: loop {
-        if let Some(behind) = take(left, TokenKind::SymParenRight) {
-            return Some(behind);
+        if let Some(following) = take(left, TokenKind::SymParenRight) {
+            return Some(following);
         }
         left = expression(left)?;
         let Some(next) = take(left, TokenKind::SymComma) else {

@@ -10,8 +10,9 @@ use crate::expression::expression;
 use crate::next::take;
 use wgsl_lex_token::kind::TokenKind;
 
-/// Whether tokens of these kinds are list(Expression): one expression at least, with commas between, and perhaps one behind the last.
-/// A reserved word or a comment is of no expression. Each kind is read once, and no memory is taken.
+/// Whether tokens of these kinds are list(Expression): one expression at least, with commas
+/// between, and perhaps one after the last. A reserved word or a comment is of no expression. Each
+/// kind is read once, and no memory is taken.
 pub fn is_expression_list(kinds: &[TokenKind]) -> bool
     ensures { (ts : List Token) → AreOfKinds ts kinds.now → IsTrue result ↔ IsExpressionList ts }
 {
@@ -20,14 +21,14 @@ pub fn is_expression_list(kinds: &[TokenKind]) -> bool
     };
     'items: while let Some(next) = take(left, TokenKind::SymComma) {
         match expression(next) {
-            Some(behind) => left = behind,
+            Some(following) => left = following,
             None => return next.is_empty(),
         }
     }
     left.is_empty()
 }
 
-/// Whether tokens of these kinds are one expression, without a comma behind it.
+/// Whether tokens of these kinds are one expression, without a comma after it.
 pub(crate) fn is_expression(kinds: &[TokenKind]) -> bool
     ensures { (ts : List Token) → AreOfKinds ts kinds.now → IsTrue result ↔ IsOne ts }
 {

@@ -10,7 +10,9 @@ use std::alloc::{AllocError, Global};
 pub(crate) enum Finding {
     /// It begins no list, and none is around it.
     Around,
-    /// It begins a list, whose `>` stands at the place, or none. A list around it goes on there, behind a stretch of the kinds that are kept; where the `<` begins none, one in whose brackets it stands.
+    /// It begins a list, whose `>` is at the place, or none. A list around it goes on there, after
+    /// a stretch of the kinds that are kept; where the `<` begins none, one in whose brackets it
+    /// is.
     GoesOn {
         is_list: bool,
         place: usize,

@@ -1,4 +1,4 @@
-//! The kinds of tokens that were read, in which a stretch that was read before may stand again.
+//! The kinds of tokens that were read, in which a stretch that was read before may be again.
 
 ghost use Rattle.std.specs.Prelude.{◌≡◌, ◌≤◌, [], ◌∷◌, ◌++◌, take, length, IfOk, IsTrue};
 ghost use Rattle.wgsl_lex_token.specs.View.{classes};
@@ -81,9 +81,9 @@ impl Kept {
         self.pieces.truncate(len);
     }
 
-    /// Puts the kinds of a stretch behind others.
-    /// The rests are overwritten: they are what comes behind the stretch that is gone through, the nearest last.
-    /// A stretch that stands last leaves no rest, so that stretches that each end with another take no memory.
+    /// Puts the kinds of a stretch after others. The rests are overwritten: they are what comes
+    /// after the stretch that is gone through, the nearest last. A stretch that is last leaves no
+    /// rest, so that stretches that each end with another take no memory.
     pub(crate) fn push_kinds(
         &self,
         start: usize,

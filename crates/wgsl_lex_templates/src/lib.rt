@@ -1,4 +1,4 @@
-//! Where the template lists of a text stand (WGSL, "Template Lists").
+//! Where the template lists of a text are (WGSL, "Template Lists").
 #![tactic(auto)]
 
 mod attempt;

@@ -1,4 +1,4 @@
-//! The tokens behind a `<`, up to where it shows whether a list could begin at it.
+//! The tokens after a `<`, up to where it shows whether a list could begin at it.
 
 ghost use Rattle.std.specs.Prelude.{◌≡◌, ◌+◌, ◌<◌, ◌≤◌, ◌^◌, ⊤, ℕ, List, [], ◌∷◌, ◌++◌, chars, length, IfOk, MatchOption};
 ghost use Rattle.wgsl_model.specs.Tokens.ClassTable.{SymLessThan};
@@ -11,7 +11,7 @@ ghost use Rattle.wgsl_lex_templates.specs.declared.kept.Piece.{Piece};
 ghost use Rattle.wgsl_lex_templates.specs.declared.kept.Piece.TheVariants.{Token};
 ghost use Rattle.wgsl_lex_comments.specs.Comments.{AreComments};
 ghost use Rattle.wgsl_lex_templates.specs.Lists.{TellLists};
-ghost use Rattle.wgsl_lex_templates.specs.TemplateEnds.{SkipsList, SkipsBehind};
+ghost use Rattle.wgsl_lex_templates.specs.TemplateEnds.{SkipsList, SkipsAfter};
 ghost use Rattle.wgsl_lex_templates.specs.Kept.{BeginWith};
 ghost use Rattle.wgsl_lex_templates.specs.Findings.{AreRight};
 ghost use Rattle.wgsl_lex_templates.specs.Readings.{IsReading, IsMet};
@@ -26,13 +26,13 @@ use wgsl_lex_comments::Comments;
 use wgsl_lex_scanner::scan::{Scanned, place, scan};
 use wgsl_lex_token::kind::TokenKind;
 
-/// What the tokens behind a `<` show.
+/// What the tokens after a `<` show.
 pub(crate) enum Reading<'s> {
     /// The `>` at the front of the text would end the list.
     Ends(&'s str),
     /// There is no list, and none around it.
     Around,
-    /// There is no list; one in whose brackets the `<` stands goes on at the text.
+    /// There is no list; one in whose brackets the `<` is goes on at the text.
     Within(&'s str),
 }
 
@@ -52,14 +52,14 @@ pub(crate) fn take<'s>(
     ensures reads { reads.new ≡ reads.old + 1 }
 {
     *reads += 1;
-    let rest = comments.behind_trivia(source, text)?;
+    let rest = comments.skip_trivia(source, text)?;
     Ok(scan(rest))
 }
 
-/// The text behind the known list that begins the text.
-fn behind_list<'s>(lists: &Lists, total: usize, text: &'s str) -> Option<&'s str>
+/// The text after the known list that begins the text.
+fn after_list<'s>(lists: &Lists, total: usize, text: &'s str) -> Option<&'s str>
     requires fits { length text.now ≤ total }
-    requires first { (behind : List ℕ) × (chars text.now ≡ 60 ∷ behind) }
+    requires first { (following : List ℕ) × (chars text.now ≡ 60 ∷ following) }
     requires lists { TellLists total lists.now.spans.items (chars text.now) }
     ensures value { SkipsList total (chars text.now) result }
     ensures shorter { MatchOption result ⊤ (λ rest. length rest.now < length text.now) }
@@ -69,28 +69,29 @@ fn behind_list<'s>(lists: &Lists, total: usize, text: &'s str) -> Option<&'s str
     text.get(end - start..)
 }
 
-/// The same where a token of a kind begins the text, which begins a list only if it is a `<` behind a word.
-fn list_behind<'s>(
+/// The same where a token of a kind begins the text, which begins a list only if it is a `<` after
+/// a word.
+fn list_after<'s>(
     lists: &Lists,
     total: usize,
-    behind_word: bool,
+    after_word: bool,
     kind: TokenKind,
     text: &'s str,
 ) -> Option<&'s str>
     requires fits { length text.now ≤ total }
     requires first { class_of_kind kind ≡ SymLessThan →
-        (behind : List ℕ) × (chars text.now ≡ 60 ∷ behind) }
+        (following : List ℕ) × (chars text.now ≡ 60 ∷ following) }
     requires lists { TellLists total lists.now.spans.items (chars text.now) }
-    ensures value { SkipsBehind behind_word (class_of_kind kind) total (chars text.now) result }
+    ensures value { SkipsAfter after_word (class_of_kind kind) total (chars text.now) result }
     ensures shorter { MatchOption result ⊤ (λ rest. length rest.now < length text.now) }
 {
-    if behind_word && is_less_than(kind) {
-        return behind_list(lists, total, text);
+    if after_word && is_less_than(kind) {
+        return after_list(lists, total, text);
     }
     None
 }
 
-/// Puts the kinds of a list of one name behind the others: they stand for those of any other list.
+/// Puts the kinds of a list of one name after the others: they stand for those of any other list.
 fn push_list(kept: &mut Kept) -> Result<(), AllocError>
     ensures { IfOk result (λ _. kept.new.pieces.items ≡ ((kept.old.pieces.items
         ++ Token TemplateArgsStart ∷ []) ++ Token Ident ∷ []) ++ Token TemplateArgsEnd ∷ []) }
@@ -106,7 +107,7 @@ enum Met<'s> {
     /// It ends with a `<`, at which no list begins, and none is around the token.
     Around,
     /// It ends with a `<`, which begins a list or none. A list around the token goes on at the
-    /// rest, after the stretch; where the `<` begins none, one in whose brackets it stands.
+    /// rest, after the stretch; where the `<` begins none, one in whose brackets it is.
     GoesOn {
         is_list: bool,
         rest: &'s str,
@@ -176,7 +177,7 @@ pub(crate) fn read<'s>(
     let total = source.len();
     let mut rest = text;
     let mut depth = 0usize;
-    let mut behind_word = false;
+    let mut after_word = false;
     'tokens: while let Scanned::Found {
         lexeme,
         from,
@@ -184,27 +185,27 @@ pub(crate) fn read<'s>(
     } = take(comments, reads, source, rest)?
     {
         let kind = lexeme.kind();
-        if let Some(behind) = list_behind(&tried.lists, total, behind_word, kind, from) {
+        if let Some(following) = list_after(&tried.lists, total, after_word, kind, from) {
             push_list(kept)?;
-            rest = behind;
-            behind_word = false;
+            rest = following;
+            after_word = false;
             continue;
         }
         match look_up(&tried.findings, source, kind, after) {
             Met::Around => return Ok(Reading::Around),
             Met::GoesOn {
                 is_list,
-                rest: behind,
+                rest: following,
                 start,
                 end,
             } => {
                 kept.push(kind)?;
                 kept.push_stretch(start, end)?;
                 if depth == 0 && !is_list {
-                    return Ok(Reading::Within(behind));
+                    return Ok(Reading::Within(following));
                 }
-                rest = behind;
-                behind_word = false;
+                rest = following;
+                after_word = false;
                 continue;
             }
             Met::Nothing => {}
@@ -219,7 +220,7 @@ pub(crate) fn read<'s>(
             return Err(AllocError);
         }
         kept.push(kind)?;
-        behind_word = is_word(kind);
+        after_word = is_word(kind);
         rest = after;
     }
     Ok(Reading::Around)

@@ -60,19 +60,19 @@ fn role_of(kind: TokenKind) -> Role
     }
 }
 
-/// What a token does to the list that it stands in.
+/// What a token does to the list that it is in.
 #[derive(Clone, Copy)]
 pub(crate) enum Turn {
     Ends,
-    /// Shows that there is no list, if none in whose brackets it stands.
+    /// Shows that there is no list, if none in whose brackets it is.
     Stops,
     /// Shows that there is no list, and none around it.
     Refutes,
-    /// Stands inside; so many brackets are open behind it.
+    /// Stands inside; a number of brackets are open after it.
     Takes(usize),
 }
 
-/// What a token does where so many brackets are open.
+/// What a token does where a number of brackets are open.
 pub(crate) fn turn_of(depth: usize, kind: TokenKind) -> Turn
     requires { depth + 1 < 2 ^ 64 }
     ensures { result ≡ turn depth (class_of_kind kind) }
@@ -90,7 +90,7 @@ pub(crate) fn turn_of(depth: usize, kind: TokenKind) -> Turn
     }
 }
 
-/// Whether a template list may follow: behind an identifier or a keyword.
+/// Whether a template list may follow: after an identifier or a keyword.
 pub fn is_word(kind: TokenKind) -> bool
     ensures { result ≡ is_word (class_of_kind kind) }
 {

@@ -1,4 +1,4 @@
-//! A list of expressions in fewer kinds, which may stand in its place.
+//! A list of expressions in fewer kinds, which may be in its place.
 
 ghost use Rattle.std.specs.Prelude.{◌≡◌, ◌≤◌, ⊤, ◌∷◌, ◌++◌, length, IfOk, IfSome, IsTrue, MatchOption};
 ghost use Rattle.wgsl_model.specs.Tokens.ClassTable.{SymParenLeft, SymParenRight};
@@ -14,7 +14,7 @@ const ONE_EXPRESSION: &[TokenKind] = &[TokenKind::Ident];
 
 const NOT_ONE_EXPRESSION: &[TokenKind] = &[TokenKind::Ident, TokenKind::SymComma];
 
-/// Where the first of the closing parentheses among kinds stands that closes none of them.
+/// Where the first of the closing parentheses among kinds is that closes none of them.
 fn closing(kinds: &[TokenKind]) -> Option<usize>
     ensures { IfSome result (λ at. at ≤ length kinds.now) }
 {
@@ -34,7 +34,7 @@ fn closing(kinds: &[TokenKind]) -> Option<usize>
     None
 }
 
-/// What stands in the parentheses with which kinds begin, and what stands after these.
+/// What is in the parentheses with which kinds begin, and what is after these.
 fn parenthesized(kinds: &[TokenKind]) -> Option<(&[TokenKind], &[TokenKind])>
     ensures { MatchOption result ⊤ (λ parts.
         classes kinds.now ≡ in_parentheses (classes parts.0.now) ++ classes parts.1.now) }
@@ -44,7 +44,7 @@ fn parenthesized(kinds: &[TokenKind]) -> Option<(&[TokenKind], &[TokenKind])>
     Some((content, take(rest, TokenKind::SymParenRight)?))
 }
 
-/// What may stand in parentheses in place of kinds.
+/// What may be in parentheses in place of kinds.
 fn content(kinds: &[TokenKind]) -> &[TokenKind]
     ensures { MayReplace (in_parentheses (classes result.now))
         (in_parentheses (classes kinds.now)) }

@@ -12,7 +12,8 @@ use crate::tried::Tried;
 use std::alloc::{AllocError, Global};
 use wgsl_lex_comments::Comments;
 
-/// The template lists of a text, and what it took to find them. Places are byte offsets; a start is inclusive, an end exclusive.
+/// The template lists of a text, and what it took to find them. Places are byte offsets; a start is
+/// inclusive, an end exclusive.
 #[derive(Debug, PartialEq, Drop)]
 pub struct Templates {
     lists: Lists,
@@ -34,7 +35,7 @@ impl Templates {
         })
     }
 
-    /// Where the text begins that stands behind the template list whose `<` stands at the place.
+    /// Where the text begins that is after the template list whose `<` is at the place.
     pub fn end_of(&self, place: usize) -> Option<usize>
         ensures { result ≡ end_from self.now.lists.spans.items place }
     {
@@ -68,8 +69,8 @@ pub fn discover(alloc: Global, source: &str) -> Result<Templates, AllocError>
     discover_within(alloc, source, usize::MAX)
 }
 
-/// `discover` on a stack that grows with a depth: where after a `<` more than so many brackets are
-/// open at one place of what has to be read, it returns the error.
+/// `discover` on a stack that grows with a depth: where after a `<` more than a number of brackets
+/// are open at one place of what has to be read, it returns the error.
 pub fn discover_within(alloc: Global, source: &str, depth: usize) -> Result<Templates, AllocError>
     ensures lists { IfOk result (λ found.
         AreLists (width (chars source.now)) found.lists.spans.items (chars source.now)) }

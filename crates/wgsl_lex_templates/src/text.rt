@@ -2,8 +2,8 @@
 
 ghost use Rattle.std.specs.Prelude.{◌≡◌, ◌<◌, ◌≤◌, chars, drop, length};
 
-/// The text behind its first character.
-pub fn behind_first(text: &str) -> &str
+/// The text after its first character.
+pub fn after_first(text: &str) -> &str
     ensures value { chars result.now ≡ drop 1 (chars text.now) }
     ensures within { length result.now ≤ length text.now }
     ensures shorter { 0 < length text.now → length result.now < length text.now }

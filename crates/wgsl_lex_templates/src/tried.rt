@@ -10,7 +10,7 @@ use crate::lists::Lists;
 use std::alloc::{AllocError, Global};
 use wgsl_span::Span;
 
-/// So many tokens are no longer few.
+/// A number of tokens are no longer few.
 const FEW_TOKENS: u128 = 10;
 
 /// The lists that were found, and what was found of each `<` whose attempt read more than a few tokens.

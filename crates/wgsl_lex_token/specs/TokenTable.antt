@@ -1,4 +1,5 @@
--- Written by tools/tables/tokens.py from crates/wgsl_model/tokens: which token it is, and what it holds.
+-- Written by tools/tables/tokens.py from crates/wgsl_model/tokens: which token it is, and what it
+-- holds.
 use Rattle.std.specs.Prelude.{pos, string_bytes}
 use Rattle.grammar.specs.Tokens.{Payload, Payload.nothing, Payload.name, Payload.number}
 use Rattle.wgsl_lex_token.specs.declared.kind_table.TokenKind.{TokenKind}

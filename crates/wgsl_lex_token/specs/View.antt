@@ -10,7 +10,7 @@ use Rattle.wgsl_lex_token.specs.contracts.kind_table.TokenKind.{the_type}
 use Rattle.wgsl_lex_token.specs.declared.token_table.Token.{Token}
 pub use Rattle.wgsl_lex_token.specs.TokenTable.{kind_of, payload_of}
 
--- the class of a kind is its number: the kinds stand in the order of the classes
+-- the class of a kind is its number: the kinds are in the order of the classes
 abbrev pub class_of_kind : TokenKind → ℕ
 class_of_kind k = tag_of the_type k
 
@@ -18,7 +18,7 @@ class_of_kind k = tag_of the_type k
 abbrev pub classes : List TokenKind → List ℕ
 classes kinds = map class_of_kind kinds
 
--- a token, wherever it stands
+-- a token, wherever it is
 abbrev pub kind_view : Token → Kind
 kind_view t = record { class = class_of_kind (kind_of t); payload = payload_of t }
 

@@ -1,9 +1,9 @@
-//! Tokens where they stand.
+//! Tokens where they are.
 
 use crate::token::Token;
 use wgsl_span::Span;
 
-/// A token and where it stands.
+/// A token and where it is.
 #[derive(PartialEq, Debug, Drop)]
 pub struct PlacedToken {
     pub token: Token,

@@ -19,7 +19,7 @@ given_before : (l u : Lexer) (given : List PlacedToken) (ts : List Token) (e : E
 given_before l u [] ts e h left = subst (λ x. IsLeft x ts e) (sym h) left
 given_before l u (p ∷ given) ts e h left = h.1 (map placed_view given ++ ts) e (given_before h.0 u given ts e h.2 left)
 
--- all tokens and how they end, unless memory was refused
+-- all tokens and how they end, unless an allocation failed
 all_by : (l : Lexer) (given : List PlacedToken) (error : Option PlacedError) (u : Lexer)
     → YieldsThen GivesItem l (map item_of given) (last_of error) u
     → IsLeft l (map placed_view given) (ending_view error) ⊎ IsOutOfMemory error
@@ -76,7 +76,7 @@ beginning_read source l found reads came =
     let b = collected_begins l found (subst (λ it. Gave GivesItem it found) came.1 came.2) in
     (b.0, b.1, (reads (tokens_view found ++ b.0) b.1).1 b.2)
 
--- all tokens of the source were collected, unless memory was refused
+-- all tokens of the source were collected, unless an allocation failed
 pub all_lexed : (source : List ℕ) (l : Lexer) (r : Result Collected AllocError) → Reads source l → IfOk r (Came l)
     → IfOk r (λ found. IsTokenList source (tokens_view found) (ending_view found.error) ⊎ IsOutOfMemory found.error)
 all_lexed source l (Ok found) reads came = all_read source l found reads came

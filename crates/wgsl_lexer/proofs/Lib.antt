@@ -1,6 +1,6 @@
 pub mod Lefts
 pub mod Room
-pub mod Behind
+pub mod After
 pub mod Endings
 pub mod InOrder
 pub mod Collects

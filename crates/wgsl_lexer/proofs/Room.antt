@@ -23,7 +23,7 @@ pub at_most_all : (p : ℕ) (spans : List Span) → starts_from p spans ≤ leng
 at_most_all p [] = omega arith
 at_most_all p (s ∷ spans) = let more = at_most_all p spans in grind (arith, nat_tests, more)
 
--- one fewer behind one of them
+-- one fewer after one of them
 pub one_fewer : (p q start end : ℕ) (spans : List Span) → end_from spans start ≡ Some end
     → p ≤ start → start < q → starts_from q spans < starts_from p spans
 one_fewer p q start end [] e low high = absurd cc
@@ -38,7 +38,7 @@ one_fewer p q start end (s ∷ spans) e low high = by_test (s.start == start) re
         grind (arith, nat_tests, same, more, low, high)
     by_test false other f again = let more = again f low high in grind (arith, nat_tests, more, low, high)
 
--- one fewer behind the `<` of a list
+-- one fewer after the `<` of a list
 pub entered : (total : ℕ) (spans : List Span) (rest from after : List ℕ) (kind : Kind) (start end : ℕ)
     → IsUtf8 from → IsUtf8 after → raw (chars rest) ≡ token kind (chars from) (chars after)
     → length from ≤ length rest → length rest ≤ total

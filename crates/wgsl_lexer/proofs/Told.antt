@@ -1,4 +1,4 @@
--- Whether a template list ends behind a `<`, by what the lists of the source tell.
+-- Whether a template list ends after a `<`, by what the lists of the source tell.
 use Rattle.std.proofs.Common.{◌≡◌, ◌∙◌, ◌+◌, ◌≤◌, ℕ, List, Some, None, ap}
 use Rattle.wgsl_model.specs.Tokens.ClassTable.{SymLessThan}
 use Rattle.wgsl_model.specs.Tokens.Kind.{Kind}
@@ -11,10 +11,10 @@ use Rattle.wgsl_lex_templates.specs.Lists.{AreTold}
 use Rattle.wgsl_theory_templates.specs.Attempts.{EndsAt, HasNoEnd}
 use Rattle.wgsl_lex_templates.proofs.TextLists.Fronts.{raw_again, less_first}
 use Rattle.wgsl_theory_templates.proofs.Swaps.Attempts.{list_front}
-use Rattle.wgsl_lex_templates.proofs.Readings.Reached.{no_end_behind}
+use Rattle.wgsl_lex_templates.proofs.Readings.Reached.{no_end_after}
 use Rattle.wgsl_lex_templates.proofs.TextLists.Known.{known_end, known_some, known_none, end_place}
 
--- the end that is told is behind the `>` of the list
+-- the end that is told is after the `>` of the list
 pub end_told : (total : ℕ) (spans : List Span) (rest from after : List ℕ) (kind : Kind) (start end : ℕ)
     → raw rest ≡ token kind from after → AreTold total spans rest → width after ≤ total
     → kind.class ≡ SymLessThan → start ≡ place total from
@@ -34,6 +34,6 @@ pub no_end_told : (total : ℕ) (spans : List Span) (rest from after : List ℕ)
     → end_from spans start ≡ None → HasNoEnd total after
 no_end_told total spans rest from after kind start r told less s e =
     let first = less_first rest from after kind r less in
-    no_end_behind total from after kind (raw_again rest from after kind r) less
+    no_end_after total from after kind (raw_again rest from after kind r) less
     (known_none total spans from first.0 start
     (known_end total spans rest from (cut_at rest from after kind r).0 told) first.1 s e)

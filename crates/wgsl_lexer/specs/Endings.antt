@@ -12,7 +12,7 @@ abbrev pub ending_with : Option Span → Ending
 ending_with None = finished
 ending_with (Some span) = carried (invalid_token (span_view span))
 
--- the invalid token that stands at the front of a text, where no other token does
+-- the invalid token that is at the front of a text, where no other token does
 abbrev pub IsInvalidAt : ℕ → Raw → Option Span → Type 0
 IsInvalidAt total none_left found = found ≡ None
 IsInvalidAt total (invalid from after) found = found

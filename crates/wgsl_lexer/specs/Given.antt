@@ -14,7 +14,7 @@ TokenItem = Result (ℕ × Token × ℕ) PlacedError
 abbrev pub item_of : PlacedToken → TokenItem
 item_of p = Ok (p.span.start, p.token, p.span.end)
 
--- what came behind the tokens: nothing more, or an error
+-- what came after the tokens: nothing more, or an error
 abbrev pub last_of : Option PlacedError → Option TokenItem
 last_of None = None
 last_of (Some x) = Some (Err x)

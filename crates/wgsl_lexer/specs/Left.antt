@@ -24,7 +24,7 @@ abbrev pub HasToken : Lexer → Type 0
 HasToken l = (t : Token) × (ts : List Token) × (e : Ending) × IsLeft l (t ∷ ts) e
 
 -- What a call of `next` gives: nothing where nothing is left; the first of the tokens that are
--- left; the fault that is left, or that memory was refused for a token. Behind these last two
+-- left; the fault that is left, or that an allocation failed for a token. After these last two
 -- nothing is left.
 abbrev pub GivesItem : Lexer → Option TokenItem → Lexer → Type 0
 GivesItem old None new = HasEnded old × HasEnded new

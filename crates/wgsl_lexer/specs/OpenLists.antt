@@ -1,4 +1,4 @@
--- Where the template lists end that a text stands in.
+-- Where the template lists end that a text is in.
 use Rattle.std.specs.Prelude.{◌≡◌, ℕ, Bool, true, false, List, ◌∷◌}
 
 -- whether the innermost list ends at a place, and the ends that there are then

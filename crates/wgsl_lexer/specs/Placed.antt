@@ -1,4 +1,4 @@
--- Tokens and errors where they stand, as the definitions see them.
+-- Tokens and errors where they are, as the definitions see them.
 use Rattle.std.specs.Prelude.{◌≡◌, ℕ, List, map, Option, Some, None, IsSomeAnd}
 use Rattle.grammar.specs.Tokens as plain
 use Rattle.grammar.specs.Endings.{Ending, Ending.finished, Ending.carried}
@@ -20,11 +20,11 @@ placed_fault x = parse_error_fault x.1 (record { start = x.0; end = x.2 })
 abbrev pub tokens_view : Collected → List plain.Token
 tokens_view found = map placed_view found.tokens.items
 
--- how tokens end behind which this error came, or none
+-- how tokens end after which this error came, or none
 abbrev pub ending_view : Option PlacedError → Ending
 ending_view None = finished
 ending_view (Some x) = carried (placed_fault x)
 
--- memory was refused
+-- an allocation failed
 abbrev pub IsOutOfMemory : Option PlacedError → Type 0
 IsOutOfMemory error = IsSomeAnd error (λ x. x.1 ≡ parse.OutOfMemory)

@@ -1,4 +1,4 @@
--- The tokens of a text that are left, where what stands next is known.
+-- The tokens of a text that are left, where what is next is known.
 use Rattle.std.specs.Prelude.{◌≡◌, ℕ, List, [], ◌∷◌, chars, reverse, Option, Some, None}
 use Rattle.grammar.specs.Tokens.{Token}
 use Rattle.grammar.specs.Endings.{Ending, Ending.finished, Ending.carried}
@@ -18,15 +18,15 @@ use Rattle.wgsl_lexer.specs.declared.text_tokens.Next.TheVariants as next
 use Rattle.wgsl_theory_templates.specs.Rest.Left.{LeftOf}
 use Rattle.wgsl_theory_templates.proofs.Rest.LeftTokens.{HasLeft, left_exists}
 
--- these tokens stand in the text behind what stands next, and this is how they end
-abbrev pub AreBehind : TextTokens → List Token → Ending → Type 0
-AreBehind t ts e = LeftOf t.total (reverse t.ends.items) t.behind_word (chars t.rest.now) ts e
+-- these tokens are in the text after what is next, and this is how they end
+abbrev pub AreAfter : TextTokens → List Token → Ending → Type 0
+AreAfter t ts e = LeftOf t.total (reverse t.ends.items) t.after_word (chars t.rest.now) ts e
 
 -- there is one such list
-abbrev pub has_left : (t : TextTokens) → HasLeft t.total (reverse t.ends.items) t.behind_word (chars t.rest.now)
-has_left t = left_exists t.total (reverse t.ends.items) t.behind_word (chars t.rest.now)
+abbrev pub has_left : (t : TextTokens) → HasLeft t.total (reverse t.ends.items) t.after_word (chars t.rest.now)
+has_left t = left_exists t.total (reverse t.ends.items) t.after_word (chars t.rest.now)
 
--- what stands next and the tokens behind it
+-- what is next and the tokens after it
 abbrev pub from_next : Next → List Token → List Token
 from_next (next.Token lexeme span) ts = placed (lexeme_view lexeme) span.start span.end ∷ ts
 from_next (next.Invalid span) ts = []
@@ -46,7 +46,7 @@ tokens_left t = from_next t.next (has_left t).0
 abbrev pub ending_left : TextTokens → Ending
 ending_left t = end_from_next t.next (has_left t).1
 
--- a token stands next
+-- a token is next
 abbrev pub IsToken : Next → Type 0
 IsToken (next.Token lexeme span) = Unit {0}
 IsToken _ = ⊥
@@ -56,7 +56,7 @@ abbrev pub StartWithKind : List Token → TokenKind → Type 0
 StartWithKind [] kind = ⊥
 StartWithKind (t ∷ ts) kind = t.class ≡ class_of_kind kind
 
--- the first of some tokens stands at a span
+-- the first of some tokens is at a span
 abbrev pub BeginAt : List Token → Span → Type 0
 BeginAt [] span = ⊥
 BeginAt (t ∷ ts) span = (t.start ≡ span.start) × (t.end ≡ span.end)

@@ -10,7 +10,7 @@ ghost use Rattle.wgsl_lexer.specs.Endings.{IsInvalidAt, ending_with};
 use wgsl_lex_scanner::scan::{Scanned, place, scan};
 use wgsl_span::Span;
 
-/// The invalid token at the front of the end of a text of so many bytes, if one stands there.
+/// The invalid token at the front of the end of a text of a number of bytes, if one is there.
 fn invalid_at(total: usize, text: &str) -> Option<Span>
     ensures { IsInvalidAt total (raw (chars text.now)) result }
 {
@@ -24,7 +24,7 @@ fn invalid_at(total: usize, text: &str) -> Option<Span>
 }
 
 /// The invalid token that ends the tokens of a text, the last of which ends at a place.
-pub fn invalid_behind(source: &str, place: usize) -> Option<Span>
+pub fn invalid_after(source: &str, place: usize) -> Option<Span>
     ensures { (ts : List Token) (e : Ending) →
         IsTokenList (chars source.now) ts e → place ≡ last_end 0 ts → e ≡ ending_with result }
 {

@@ -1,4 +1,4 @@
-//! Where the template lists end that a text stands in, the innermost last.
+//! Where the template lists end that a text is in, the innermost last.
 
 ghost use Rattle.std.specs.Prelude.{◌≡◌, ◌+◌, ◌≤◌, ◌<◌, ◌∷◌, reverse, vec_len, vec_capacity};
 ghost use Rattle.wgsl_lexer.specs.OpenLists.{LeavesEnds};

@@ -10,7 +10,7 @@ mod text_tokens;
 mod token_iterator;
 
 pub use collect::{Collected, collect_tokens};
-pub use ending::invalid_behind;
+pub use ending::invalid_after;
 pub use lexer::Lexer;
 pub use source::{lex, recognize_template_list};
 pub use text_tokens::TextTokens;

@@ -9,13 +9,13 @@ use std::alloc::{AllocError, Global};
 use wgsl_lex_scanner::lexeme::Lexeme;
 use wgsl_lex_scanner::scan::{Scanned, place, scan};
 use wgsl_lex_templates::roles::{is_less_than, is_word};
-use wgsl_lex_templates::text::behind_first;
+use wgsl_lex_templates::text::after_first;
 use wgsl_lex_templates::{Templates, discover_within};
 use wgsl_lex_token::kind::TokenKind;
 use wgsl_lex_token::placed::PlacedToken;
 use wgsl_span::Span;
 
-/// What stands next in a text.
+/// What is next in a text.
 #[derive(Clone, Copy)]
 pub(crate) enum Next<'s> {
     Token { lexeme: Lexeme<'s>, span: Span },
@@ -24,18 +24,19 @@ pub(crate) enum Next<'s> {
     NoneLeft,
 }
 
-/// The tokens of a text that are left. Going on takes no memory, and a token takes it only for what it holds.
+/// The tokens of a text that are left. Going on takes no memory, and a token takes it only for what
+/// it holds.
 #[derive(Drop)]
 pub struct TextTokens<'s> {
     alloc: Global,
     /// How many bytes the source has.
     total: usize,
     next: Next<'s>,
-    /// The text behind what stands next.
+    /// The text after what is next.
     rest: &'s str,
-    /// Whether what stands next is a word that a template list may follow.
-    behind_word: bool,
-    /// Where the template lists end that the rest stands in, the innermost last.
+    /// Whether what is next is a word that a template list may follow.
+    after_word: bool,
+    /// Where the template lists end that the rest is in, the innermost last.
     ends: Vec<usize>,
     /// How many more may be entered.
     room: usize,
@@ -58,7 +59,7 @@ impl<'s> TextTokens<'s> {
     ghost use Rattle.wgsl_lex_scanner.specs.View.{lexeme_view};
     ghost use Rattle.wgsl_lex_templates.specs.Spans.{end_from};
     ghost use Rattle.wgsl_lexer.specs.Endings.{ending_with};
-    ghost use Rattle.wgsl_lexer.specs.TextTokens.{AreBehind, has_left, from_next, IsToken, tokens_left, ending_left, StartWithKind, BeginAt, BeginWithName, IsTaken};
+    ghost use Rattle.wgsl_lexer.specs.TextTokens.{AreAfter, has_left, from_next, IsToken, tokens_left, ending_left, StartWithKind, BeginAt, BeginWithName, IsTaken};
 
     pub fn new(alloc: Global, source: &'s str) -> Result<TextTokens<'s>, AllocError>
         ensures { IfOk result (λ tokens.
@@ -67,8 +68,8 @@ impl<'s> TextTokens<'s> {
         TextTokens::within(alloc, source, usize::MAX)
     }
 
-    /// `new` on a stack that grows with a depth: where after a `<` more than so many brackets are open
-    /// at one place of what has to be read, it returns the error.
+    /// `new` on a stack that grows with a depth: where after a `<` more than a number of brackets
+    /// are open at one place of what has to be read, it returns the error.
     pub fn within(
         alloc: Global,
         source: &'s str,
@@ -85,7 +86,7 @@ impl<'s> TextTokens<'s> {
     /// Nothing is next, and the whole source is after it.
     fn before(alloc: Global, source: &'s str, depth: usize) -> Result<TextTokens<'s>, AllocError>
         ensures { IfOk result (λ tokens. (ts : List grammar.Token) (e : Ending) →
-            AreBehind tokens ts e → IsTokenList (chars source.now) ts e) }
+            AreAfter tokens ts e → IsTokenList (chars source.now) ts e) }
     {
         let templates = discover_within(alloc, source, depth)?;
         let room = templates.attempts();
@@ -95,7 +96,7 @@ impl<'s> TextTokens<'s> {
             total: source.len(),
             next: Next::NoneLeft,
             rest: source,
-            behind_word: false,
+            after_word: false,
             ends,
             room,
             templates,
@@ -115,14 +116,14 @@ impl<'s> TextTokens<'s> {
             total: self.total,
             next: self.next,
             rest: self.rest,
-            behind_word: self.behind_word,
+            after_word: self.after_word,
             ends,
             room: self.room,
             templates,
         })
     }
 
-    /// Which token stands next, if one does.
+    /// Which token is next, if one does.
     pub fn kind(&self) -> Option<TokenKind>
         ensures { MatchOption result
             (tokens_left self.now ≡ []) (StartWithKind (tokens_left self.now)) }
@@ -133,7 +134,7 @@ impl<'s> TextTokens<'s> {
         }
     }
 
-    /// Where the next token stands, if there is one.
+    /// Where the next token is, if there is one.
     pub fn span(&self) -> Option<Span>
         ensures { MatchOption result (tokens_left self.now ≡ []) (BeginAt (tokens_left self.now)) }
     {
@@ -143,7 +144,7 @@ impl<'s> TextTokens<'s> {
         }
     }
 
-    /// The name that stands next, if one does.
+    /// The name that is next, if one does.
     pub fn name(&self) -> Option<&'s str>
         ensures { IfSome result (λ name. BeginWithName (tokens_left self.now) name.now) }
     {
@@ -185,7 +186,7 @@ impl<'s> TextTokens<'s> {
         self.next = Next::NoneLeft;
     }
 
-    /// Goes on behind the next token, if there is one.
+    /// Goes on after the next token, if there is one.
     pub fn skip(&mut self)
         ensures left { tokens_left self.new ≡ drop 1 (tokens_left self.old) }
         ensures ending { ending_left self.new ≡ ending_left self.old }
@@ -195,7 +196,7 @@ impl<'s> TextTokens<'s> {
         }
     }
 
-    /// Finds what stands next behind it.
+    /// Finds what is next after it.
     fn go_on(&mut self)
         ensures left { tokens_left self.new ≡ (has_left self.old).0 }
         ensures ending { ending_left self.new ≡ (has_left self.old).1 }
@@ -224,33 +225,33 @@ impl<'s> TextTokens<'s> {
         }
     }
 
-    /// Where the text begins behind the list whose `<` is a token of a kind at the place.
+    /// Where the text begins after the list whose `<` is a token of a kind at the place.
     fn list_end(&self, kind: TokenKind, start: usize) -> Option<usize>
-        ensures { MatchOption result (self.now.behind_word ≡ true → class_of_kind kind
+        ensures { MatchOption result (self.now.after_word ≡ true → class_of_kind kind
             ≡ SymLessThan → end_from self.now.templates.lists.spans.items start ≡ None) (λ end.
-            (self.now.behind_word ≡ true) × (class_of_kind kind ≡ SymLessThan) ×
+            (self.now.after_word ≡ true) × (class_of_kind kind ≡ SymLessThan) ×
             (end_from self.now.templates.lists.spans.items start ≡ Some end)) }
     {
-        if self.behind_word && is_less_than(kind) {
+        if self.after_word && is_less_than(kind) {
             return self.templates.end_of(start);
         }
         None
     }
 
-    /// Goes behind the token at the front of the rest, which is what stands next then.
+    /// Goes after the token at the front of the rest, which is what is next then.
     fn found(&mut self, lexeme: Lexeme<'s>, from: &'s str, after: &'s str) -> Next<'s>
         requires front { raw (chars self.old.rest.now)
             ≡ token (lexeme_view lexeme) (chars from.now) (chars after.now) }
         requires from { length from.now ≤ length self.old.rest.now }
         requires after { length after.now < length self.old.rest.now }
         ensures value { (ts : List grammar.Token) (e : Ending) →
-            AreBehind self.new ts e → AreBehind self.old (from_next result ts) e }
+            AreAfter self.new ts e → AreAfter self.old (from_next result ts) e }
         ensures some { IsToken result }
     {
         let span = self.span_of(from, after);
         if leave(&mut self.ends, span.start) {
-            let rest = behind_first(from);
-            self.behind_word = false;
+            let rest = after_first(from);
+            self.after_word = false;
             self.rest = rest;
             return Next::Token {
                 lexeme: Lexeme::Plain(TokenKind::TemplateArgsEnd),
@@ -261,14 +262,14 @@ impl<'s> TextTokens<'s> {
         if let Some(end) = self.list_end(kind, span.start) {
             enter(&mut self.ends, end - 1);
             self.room -= 1;
-            self.behind_word = false;
+            self.after_word = false;
             self.rest = after;
             return Next::Token {
                 lexeme: Lexeme::Plain(TokenKind::TemplateArgsStart),
                 span,
             };
         }
-        self.behind_word = is_word(kind);
+        self.after_word = is_word(kind);
         self.rest = after;
         Next::Token { lexeme, span }
     }

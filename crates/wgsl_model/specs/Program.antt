@@ -43,10 +43,10 @@ pub data Formats (bytes : List ℕ) : ProcessOutput → Type 0 where
       → Formats bytes (complaint 1 (shown_fault x ++ codes "\n"))
   not_utf8 : is_utf8 bytes ≡ false → Formats bytes (complaint 2 (codes "input is not UTF-8\n"))
 
--- what is written where memory was refused
+-- what is written where an allocation failed
 abbrev pub out_of_memory : ProcessOutput
 out_of_memory = complaint 3 (codes "out of memory\n")
 
--- the text reads as the unit without its empty items, spans aside
+-- the text reads as the unit without its empty items, ignoring spans
 abbrev pub ReadsBack : List ℕ → TranslationUnit → Type 0
 ReadsBack text u = (again : TranslationUnit) × IsUnit (chars text) again × (bare_unit again ≡ bare_unit (full_unit u))

@@ -1,4 +1,4 @@
--- How deep the lines of a text stand that begin with a closing bracket.
+-- How deep the lines of a text are that begin with a closing bracket.
 use Rattle.std.specs.Prelude.{◌≡◌, ℕ, suc, Bool, true, false, not, ◌-◌, ◌&&◌, ◌||◌, ◌==◌, if◌then◌else◌, List, [], ◌∷◌, ◌++◌}
 use Rattle.wgsl_model.specs.Tokens.Characters.{is_blank, is_line_break}
 use Rattle.wgsl_model.specs.Tokens.Trivia.{Place, outside}
@@ -42,12 +42,12 @@ abbrev pub closes_at : Place → ℕ → Bool
 closes_at outside c = c == 41 || c == 93
 closes_at p c = false
 
--- how many brackets are open after a character at such a place, with so many before it
+-- how many brackets are open after a character at such a place, with a number of before it
 abbrev pub next_depth : Place → ℕ → ℕ → ℕ
 next_depth p n c = if opens_at p c then suc n else if closes_at p c then n - 1 else n
 
--- so many brackets are open before a front that begins at such a place: these and those that open
--- in it close in it, and no others do
+-- a number of brackets are open before a front that begins at such a place: these and those that
+-- open in it close in it, and no others do
 abbrev pub are_paired : Place → ℕ → List ℕ → List ℕ → Bool
 are_paired p n [] rest = n == 0
 are_paired p n (c ∷ front) rest = not (closes_at p c && n == 0)

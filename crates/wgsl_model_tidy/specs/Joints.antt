@@ -1,4 +1,4 @@
--- What stands between two neighbouring tokens.
+-- What is between two neighbouring tokens.
 use Rattle.std.specs.Prelude.{Bool, true, false, not, ◌&&◌, ◌||◌, if◌then◌else◌}
 use Rattle.wgsl_model_tidy.specs.Roles.{Role, name, unsuffixed, number, word, else_word, opening, template_start, template_end, block_start, block_end, comma, period, at, minus, ampersand, binary, step, item_end, attribute, semicolon, is, ends_operand, begins_operand, wants_operand, is_tight, opens_bracket, closes_bracket}
 use Rattle.wgsl_model_tidy.specs.Open.{Enclosing, no_bracket, one_line, own_lines, item_lines}
@@ -15,13 +15,13 @@ pub data Joint : Type 0 where
 abbrev pub stay_apart : Role → Role → Bool
 stay_apart left right = (is left minus && is right minus) || (is left ampersand && is right ampersand)
 
--- nothing stands after `(`, `[` and `@`, between `.` and a name, and where an operand comes next
-abbrev pub tight_behind : Role → Role → Bool
-tight_behind left right =
+-- nothing is after `(`, `[` and `@`, between `.` and a name, and where an operand comes next
+abbrev pub tight_after : Role → Role → Bool
+tight_after left right =
     (is left opening || is left at) || ((is left period && is right name)
     || (wants_operand left && (begins_operand right && not (stay_apart left right))))
 
--- nothing stands before the `(` of arguments and the `[` of an index
+-- nothing is before the `(` of arguments and the `[` of an index
 abbrev pub is_applied : Role → Role → Bool
 is_applied left right = is right opening && (ends_operand left || is left attribute)
 
@@ -38,7 +38,7 @@ is_continued left right = ends_operand left && ((is right period && not (is left
 
 -- two neighbours are closed up
 abbrev pub closed_up : Role → Role → Bool
-closed_up left right = (is_tight right || tight_behind left right)
+closed_up left right = (is_tight right || tight_after left right)
     || (is_applied left right || (is_template left right || is_continued left right))
 
 -- elsewhere a line end of the author's stays around an operator between operands, after `,` and
@@ -47,8 +47,8 @@ abbrev pub continues_line : Role → Role → Bool
 continues_line left right = (is left binary || is right binary) || (is left comma || is left attribute)
 
 -- after `}`; a `;` of the author's may be in a line of its own
-abbrev pub behind_block : Role → Joint
-behind_block right = if is right else_word then space else if is_tight right
+abbrev pub after_block : Role → Joint
+after_block right = if is right else_word then space else if is_tight right
     then (if is right semicolon then nothing_or_line else nothing) else line
 
 -- what is between two neighbours in a bracket in one line
@@ -61,7 +61,7 @@ abbrev pub joint_in_lines : Bool → Role → Role → Joint
 joint_in_lines in_brackets left right =
     if is left block_start then (if is right block_end then nothing else line)
     else if is right block_end || is left item_end then line
-    else if is left block_end then behind_block right
+    else if is left block_end then after_block right
     else if is right block_start then space
     else if closed_up left right then nothing
     else if in_brackets || continues_line left right then space_or_line

@@ -13,7 +13,7 @@ use Rattle.wgsl_model_tidy.specs.Shown.{shown}
 use Rattle.wgsl_model_tidy.specs.Formatted.{mark_of, unmarked, formatted}
 use Rattle.wgsl_model_tidy.specs.NonBlank.{non_blank}
 
--- a token, wherever it stands
+-- a token, wherever it is
 abbrev pub unplaced : Token → Kind
 unplaced t = record { class = t.class; payload = t.payload }
 
@@ -32,7 +32,7 @@ IsFormatted layout source text = (ts : List Token) × IsTokenList (unmarked sour
 -- not blank space, in the same order; the tokens of the source in all but their places; the same
 -- pieces in the same order, so the same comments too, but for CR before LF in block comments and
 -- spaces and tabs before `*` at the front of their lines; formatted again it stays as it is; and it
--- derives the same unit, empty items too, spans aside.
+-- derives the same unit, empty items too, ignoring spans.
 pub record Keeps (layout : Layout) (source text : List ℕ) : Type 0 where
   pub before : List Token
   pub after : List Token

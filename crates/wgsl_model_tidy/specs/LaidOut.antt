@@ -8,7 +8,7 @@ use Rattle.wgsl_model_tidy.specs.Shown.{shown}
 use Rattle.wgsl_model_tidy.specs.Roles.{Role, beginning, opening, template_start, template_end, block_end, is, is_tight, opens, opens_bracket, closes_bracket, closes, role_of, begins_operand}
 use Rattle.wgsl_model_tidy.specs.Joints.{Joint, line, nothing, space, nothing_or_line, space_or_line, joint}
 use Rattle.wgsl_model_tidy.specs.Layout.{Layout, level, column_after, line_fits}
-use Rattle.wgsl_model_tidy.specs.Open.{Style, together, as_written, item_by_item, LayoutState, Enclosing, one_line, start, enclosing, between_items, depth_of, comment_depth, role_in, behind_token}
+use Rattle.wgsl_model_tidy.specs.Open.{Style, together, as_written, item_by_item, LayoutState, Enclosing, one_line, start, enclosing, between_items, depth_of, comment_depth, role_in, after_token}
 
 -- nothing, a space, or a line end, with an empty line or without, and the blank space of a line so
 -- deep
@@ -17,7 +17,7 @@ pub data Gap : Type 0 where
   broken : Bool → ℕ → Gap
 
 -- the last piece is a token, a line comment, a block comment, one that leads (nothing but such
--- comments stands before it in its line), or one that is not closed; where there is none, it counts
+-- comments is before it in its line), or one that is not closed; where there is none, it counts
 -- as a token
 pub data Last : Type 0 where
   token line_comment block_comment leading_comment open_comment : Last
@@ -28,7 +28,7 @@ pub record Spot : Type 0 where
   pub last : Last
   pub column : ℕ
 
--- ---- which gap stands before a piece; n is how many line ends stand there, and break what a line
+-- ---- which gap is before a piece; n is how many line ends are there, and break what a line
 -- end is there
 
 -- a line end of the author's stays
@@ -36,7 +36,7 @@ abbrev pub kept_gap : ℕ → Gap → Gap → Gap
 kept_gap zero break other = other
 kept_gap (suc n) break other = break
 
--- by what stands between two tokens
+-- by what is between two tokens
 abbrev pub joint_gap : Joint → ℕ → Gap → Gap
 joint_gap line n break = break
 joint_gap nothing n break = closed
@@ -54,39 +54,39 @@ abbrev pub is_line : Joint → Bool
 is_line line = true
 is_line joint = false
 
--- what nothing stands before, after a comment too
+-- what nothing is before, after a comment too
 abbrev pub closes_up : Role → Bool
 closes_up right = is_tight right || is right template_end
 
--- between a comment and a token where no line end has to stand: a line end of the author's stays
+-- between a comment and a token where no line end has to be: a line end of the author's stays
 abbrev pub loose_joint : Role → Joint
 loose_joint right = if closes_up right then nothing_or_line else space_or_line
 
--- between a block comment and a token, by what stands between that and the token before
-abbrev pub behind_comment : Joint → Role → Joint
-behind_comment line right = line
-behind_comment joint right = loose_joint right
+-- between a block comment and a token, by what is between that and the token before
+abbrev pub after_comment : Joint → Role → Joint
+after_comment line right = line
+after_comment joint right = loose_joint right
 
 -- between a comment that leads and a token: `}` begins a line, and so does a closing bracket before
 -- which a line has to end
-abbrev pub behind_leading : Joint → Role → Joint
-behind_leading between right = if is right block_end || (is_line between && closes_bracket right)
+abbrev pub after_leading : Joint → Role → Joint
+after_leading between right = if is right block_end || (is_line between && closes_bracket right)
     then line else loose_joint right
 
--- before a token: what stands between it and the token before, by what they do
+-- before a token: what is between it and the token before, by what they do
 abbrev pub token_gap : Enclosing → Last → Role → Role → ℕ → Gap → Gap
 token_gap enclosing token left right n break = if is left beginning then closed
     else joint_gap (joint enclosing left right) n break
 token_gap enclosing line_comment left right n break = break
 token_gap enclosing leading_comment left right n break =
-    joint_gap (behind_leading (joint enclosing left right) right) n break
-token_gap enclosing last left right n break = joint_gap (behind_comment (joint enclosing left right) right) n break
+    joint_gap (after_leading (joint enclosing left right) right) n break
+token_gap enclosing last left right n break = joint_gap (after_comment (joint enclosing left right) right) n break
 
 -- before a comment after a token: a line end where it belongs to the next token; else nothing
 -- before a block comment after an opening bracket, and a space elsewhere, or a line end of the
 -- author's
-abbrev pub comment_behind : ℕ → Role → Bool → ℕ → Gap → Gap
-comment_behind class left owned n break =
+abbrev pub comment_after : ℕ → Role → Bool → ℕ → Gap → Gap
+comment_after class left owned n break =
     if is left beginning then closed
     else if owned then break
     else if (is left opening || is left template_start) && not (class == LineComment) then kept_gap n break closed
@@ -94,20 +94,20 @@ comment_behind class left owned n break =
 
 -- before a comment
 abbrev pub comment_gap : ℕ → Last → Role → Bool → ℕ → Gap → Gap
-comment_gap class token left owned n break = comment_behind class left owned n break
+comment_gap class token left owned n break = comment_after class left owned n break
 comment_gap class line_comment left owned n break = break
 comment_gap class last left owned n break = kept_gap n break blank
 
 -- the last piece is an opening bracket
-abbrev pub is_behind_opening : Last → Role → Bool
-is_behind_opening token left = opens left
-is_behind_opening last left = false
+abbrev pub is_after_opening : Last → Role → Bool
+is_after_opening token left = opens left
+is_after_opening last left = false
 
 -- a line end before a token of the role on the right: an empty line of the author's stays between
 -- items, but neither after an opening bracket nor before a closing one
 abbrev pub line_end : Bool → Last → Role → Role → ℕ → ℕ → Gap
 line_end items last left right n depth =
-    broken (nat_lt 1 n && (items && not (is_behind_opening last left || closes right))) depth
+    broken (nat_lt 1 n && (items && not (is_after_opening last left || closes right))) depth
 
 -- a comment
 abbrev pub is_comment : ℕ → Bool
@@ -136,8 +136,8 @@ abbrev pub owned : Spot → Role → List Piece → Bool
 owned spot right ps = is_token spot.last
     && ((is_line (joint (enclosing spot.state.opened) spot.state.last right) && not (closes right)) && is_followed ps)
 
--- the gap before a comment of a class, after so many line ends; the next token is of the role on
--- the right, and owns it or does not
+-- the gap before a comment of a class, after a number of line ends; the next token is of the role
+-- on the right, and owns it or does not
 abbrev pub gap_before_comment : Spot → Role → ℕ → Bool → ℕ → Gap
 gap_before_comment spot right class owned n =
     comment_gap class spot.last spot.state.last owned n
@@ -225,10 +225,10 @@ gap_text layout blank = codes " "
 gap_text layout (broken true depth) = codes "\n\n" ++ indentation layout depth
 gap_text layout (broken false depth) = codes "\n" ++ indentation layout depth
 
--- how deep a line is in which a piece stands after a gap
-abbrev pub depth_behind : Gap → ℕ → ℕ
-depth_behind (broken empty depth) before = depth
-depth_behind gap before = before
+-- how deep a line is in which a piece is after a gap
+abbrev pub depth_after : Gap → ℕ → ℕ
+depth_after (broken empty depth) before = depth
+depth_after gap before = before
 
 -- a piece after this gap begins a line
 abbrev pub begins_line : Gap → Last → Role → Bool
@@ -239,7 +239,7 @@ begins_line gap last left = false
 -- the characters of a piece after this gap; lines that have a front of their own have the blank
 -- space of this line and a space
 abbrev pub piece_text : Layout → Spot → Gap → Piece → List ℕ
-piece_text layout spot gap p = shown (indentation layout (depth_behind gap spot.state.line) ++ codes " ")
+piece_text layout spot gap p = shown (indentation layout (depth_after gap spot.state.line) ++ codes " ")
     (begins_line gap spot.last spot.state.last) p
 
 -- the state in a line of another depth
@@ -252,54 +252,54 @@ in_line_of state depth = record {
   structure = state.structure;
 }
 
--- a comment after this gap leads: it begins a line or the text, or stands after one that leads
+-- a comment after this gap leads: it begins a line or the text, or is after one that leads
 abbrev pub leads : Gap → Last → Role → Bool
 leads (broken empty depth) last left = true
 leads gap token left = is left beginning
 leads gap leading_comment left = true
 leads gap last left = false
 
--- which comment stands last after a comment of a class, that leads or does not
+-- which comment is last after a comment of a class, that leads or does not
 abbrev pub comment_last : ℕ → Bool → Last
 comment_last class leading = if class == LineComment then line_comment else if class == BlockComment
     then (if leading then leading_comment else block_comment) else open_comment
 
 -- after a piece after this gap; a bracket that it opens is of the style
-abbrev pub behind_piece : Layout → Spot → Gap → Role → Piece → Style → Spot
-behind_piece layout spot gap right p style =
-    let depth = depth_behind gap spot.state.line in
+abbrev pub after_piece : Layout → Spot → Gap → Role → Piece → Style → Spot
+after_piece layout spot gap right p style =
+    let depth = depth_after gap spot.state.line in
     let column = column_after layout spot.column (gap_text layout gap ++ piece_text layout spot gap p) in
     if is_comment p.class then record {
       state = in_line_of spot.state depth;
       last = comment_last p.class (leads gap spot.last spot.state.last);
       column = column;
     }
-    else record { state = behind_token spot.state depth p.class right style; last = token; column = column }
+    else record { state = after_token spot.state depth p.class right style; last = token; column = column }
 
 -- the same by the pieces after it
-abbrev pub behind_first : Layout → Spot → Piece → List Piece → Style → Spot
-behind_first layout spot p ps style =
+abbrev pub spot_after_first : Layout → Spot → Piece → List Piece → Style → Spot
+spot_after_first layout spot p ps style =
     let right = next_role spot.state (p ∷ ps) in
-    behind_piece layout spot (gap_before spot right p ps) right p style
+    after_piece layout spot (gap_before spot right p ps) right p style
 
--- what stands after the last piece: a line end, but not where a comment would go on with it, nor
+-- what is after the last piece: a line end, but not where a comment would go on with it, nor
 -- where there is no piece
 abbrev pub ending : Last → Role → List ℕ
 ending open_comment left = []
 ending token left = if is left beginning then [] else codes "\n"
 ending last left = codes "\n"
 
--- pieces laid out after a spot
+-- pieces formatted after a spot
 abbrev pub laid_from : Layout → Spot → List Piece → List ℕ
 laid_from layout spot [] = ending spot.last spot.state.last
 laid_from layout spot (p ∷ ps) =
-    let after = behind_first layout spot p ps in
+    let after = spot_after_first layout spot p ps in
     let style = style_of layout (enclosing spot.state.opened) p.class (after together).column ps
     (laid_from layout (after together) ps) in
     let gap = gap_before spot (next_role spot.state (p ∷ ps)) p ps in
     gap_text layout gap ++ (piece_text layout spot gap p ++ laid_from layout (after style) ps)
 
--- nothing is laid out yet
+-- nothing is formatted yet
 abbrev pub first_spot : Spot
 first_spot = record { state = start; last = token; column = 0 }
 

@@ -1,4 +1,4 @@
--- What is open at a place, how deep a line there stands, and what a token does to it.
+-- What is open at a place, how deep a line there is, and what a token does to it.
 use Rattle.std.specs.Prelude.{ℕ, suc, Bool, true, false, ◌&&◌, ◌||◌, not, ◌==◌, if◌then◌else◌, List, [], ◌∷◌, drop}
 use Rattle.wgsl_model.specs.Tokens.ClassTable.{SymMinusMinus, KwStruct}
 use Rattle.wgsl_model_tidy.specs.Roles.{Role, else_word, opening, closing, template_start, block_start, block_end, comma, semicolon, at, binary, item_end, attribute, beginning, is, opens_bracket, closes, ends_operand, begins_item, role_of}
@@ -27,7 +27,7 @@ pub record LayoutState : Type 0 where
   pub leading : Bool
   pub structure : Bool
 
--- nothing stands before the text
+-- nothing is before the text
 abbrev pub start : LayoutState
 start = record { opened = []; line = 0; last = beginning; leading = false; structure = false }
 
@@ -61,12 +61,12 @@ abbrev pub in_arguments : Opened → Bool
 in_arguments ((arguments style, depth) ∷ outer) = true
 in_arguments opened = false
 
--- how deep the lines in the innermost stand
+-- how deep the lines in the innermost are
 abbrev pub inner_depth : Opened → ℕ
 inner_depth [] = 0
 inner_depth ((kind, depth) ∷ outer) = suc depth
 
--- how deep the line stands that closes it
+-- how deep the line is that closes it
 abbrev pub outer_depth : Opened → ℕ
 outer_depth [] = 0
 outer_depth ((kind, depth) ∷ outer) = depth
@@ -83,27 +83,27 @@ between_items state right = not (in_brackets state.opened)
 
 -- ---- depths
 
--- a line begins as deep as what stands in the innermost: in brackets, where a statement, a
+-- a line begins as deep as what is in the innermost: in brackets, where a statement, a
 -- declaration, a member or a clause begins, and before `{`
 abbrev pub is_at_depth : LayoutState → Role → Bool
 is_at_depth state right = in_brackets state.opened || (begins state || is right block_start)
 
--- where one of these goes on, it stands one level deeper
+-- where one of these goes on, it is one level deeper
 abbrev pub depth_within : LayoutState → Role → ℕ
 depth_within state right = if is_at_depth state right then inner_depth state.opened else suc (inner_depth state.opened)
 
--- a line that begins with a closing bracket stands as deep as the line of the opening one
+-- a line that begins with a closing bracket is as deep as the line of the opening one
 abbrev pub depth_of : LayoutState → Role → ℕ
 depth_of state right = if closes right then outer_depth state.opened else depth_within state right
 
--- a comment on a line of its own stands as deep as what follows, but before a closing bracket as
--- deep as what stands inside
+-- a comment on a line of its own is as deep as what follows, but before a closing bracket as
+-- deep as what is inside
 abbrev pub comment_depth : LayoutState → Role → ℕ
 comment_depth state right = if closes right then inner_depth state.opened else depth_within state right
 
 -- ---- after a token
 
--- what a token of a class does after what stands there, before an operand or not: `--` stands
+-- what a token of a class does after what is there, before an operand or not: `--` is
 -- between operands where one comes after it
 abbrev pub role_in : LayoutState → ℕ → Bool → Role
 role_in state class before_operand = if class == SymMinusMinus && before_operand then binary
@@ -112,8 +112,8 @@ role_in state class before_operand = if class == SymMinusMinus && before_operand
 -- What a token is to what follows it. An attribute ends with its name or with the `)` after its
 -- arguments, a member with the `,` after it, and a statement or a declaration with its `;`, but not
 -- in the header of a `for`.
-abbrev pub last_behind : LayoutState → Role → Role
-last_behind state right =
+abbrev pub last_after : LayoutState → Role → Role
+last_after state right =
     if not (opens_bracket right) && is state.last at then attribute
     else if is right closing && in_arguments state.opened then attribute
     else if is right comma && in_members state.opened then item_end
@@ -130,8 +130,8 @@ bracket_opened state style = if is state.last attribute then arguments style els
 
 -- a block is as deep as the statement or the declaration that it is part of, a bracket as deep as
 -- the line where it opens
-abbrev pub opened_behind : LayoutState → ℕ → Role → Style → Opened
-opened_behind state line right style =
+abbrev pub opened_after_token : LayoutState → ℕ → Role → Style → Opened
+opened_after_token state line right style =
     if is right block_start then (block_opened state, inner_depth state.opened) ∷ state.opened
     else if is right opening then (bracket_opened state style, line) ∷ state.opened
     else if is right template_start then (bracket style, line) ∷ state.opened
@@ -139,23 +139,23 @@ opened_behind state line right style =
     else state.opened
 
 -- `struct` announces a structure, unless it is the name of an attribute, up to the `{`
-abbrev pub structure_behind : LayoutState → ℕ → Role → Bool
-structure_behind state class right =
+abbrev pub structure_after : LayoutState → ℕ → Role → Bool
+structure_after state class right =
     if is right block_start then false else if class == KwStruct && not (is state.last at) then true
     else state.structure
 
 -- an attribute is one of a statement, a declaration or a member where one of these begins
-abbrev pub leading_behind : LayoutState → Role → Bool
-leading_behind state right = if is right at then begins state else state.leading
+abbrev pub leading_after : LayoutState → Role → Bool
+leading_after state right = if is right at then begins state else state.leading
 
 -- the state after a token of the role on the right, in a line of this depth; a bracket that it
 -- opens is of the style
-abbrev pub behind_token : LayoutState → ℕ → ℕ → Role → Style → LayoutState
-behind_token state line class right style =
+abbrev pub after_token : LayoutState → ℕ → ℕ → Role → Style → LayoutState
+after_token state line class right style =
     record {
-      opened = opened_behind state line right style;
+      opened = opened_after_token state line right style;
       line = line;
-      last = last_behind state right;
-      leading = leading_behind state right;
-      structure = structure_behind state class right;
+      last = last_after state right;
+      leading = leading_after state right;
+      structure = structure_after state class right;
     }

@@ -1,4 +1,4 @@
--- The pieces of a text: its tokens and its comments, as they stand (WGSL, "Parsing", "Comments").
+-- The pieces of a text: its tokens and its comments, as they are (WGSL, "Parsing", "Comments").
 use Rattle.std.specs.Prelude.{ℕ, suc, ◌+◌, ◌-◌, ◌&&◌, ◌==◌, if◌then◌else◌, List, [], ◌∷◌, chars, take, drop}
 use Rattle.std.specs.Char.{is_whitespace}
 use Rattle.std.specs.Str.{encode_utf8_all}
@@ -9,13 +9,13 @@ use Rattle.wgsl_model.specs.Tokens.Characters.{is_line_break}
 use Rattle.wgsl_model.specs.Tokens.Places.{width}
 use Rattle.wgsl_model.specs.Tokens.Trivia.{Place, outside, in_line, in_block, second, out_of_block, first_or_zero}
 
--- the class of a block comment that is not closed, after which a text ends; it stands after the
+-- the class of a block comment that is not closed, after which a text ends; it is after the
 -- classes of tokens
 abbrev pub OpenComment : ℕ
 OpenComment = suc BlockComment
 
 -- a token, a bracket of a template list or a comment: its class, its characters, and how many line
--- ends stand before it
+-- ends are before it
 pub record Piece : Type 0 where
   pub class : ℕ
   pub text : List ℕ
@@ -41,27 +41,27 @@ abbrev pub put_in_line : ℕ → List Piece → List Piece
 put_in_line c [] = []
 put_in_line c (p ∷ ps) = if is_whitespace c && is_empty p.text then p ∷ ps else put c (p ∷ ps)
 
--- The comments in a text of blank space and comments, which begins at such a place, so many line
--- ends after the last piece; and after them what stands after so many line ends. A line comment
--- ends before a line break; block comments nest.
+-- The comments in a text of blank space and comments, which begins at such a place, a number of
+-- line ends after the last piece; and after them what is after a number of line ends. A line
+-- comment ends before a line break; block comments nest.
 unfoldable pub comments : (ℕ → List Piece) → Place → ℕ → List ℕ → List Piece
-comments behind outside n [] = behind n
-comments behind outside n (c ∷ cs) =
-    if c == 47 && first_or_zero cs == 47 then put c (comments behind (second in_line) n cs)
-    else if c == 47 && first_or_zero cs == 42 then put c (comments behind (second (in_block 0)) n cs)
-    else comments behind outside (n + line_ends_at c cs) cs
-comments behind in_line n [] = comment LineComment n ∷ behind 0
-comments behind in_line n (c ∷ cs) =
-    if is_line_break c then comment LineComment n ∷ comments behind outside (line_ends_at c cs) cs
-    else put_in_line c (comments behind in_line n cs)
-comments behind (in_block depth) n [] = comment OpenComment n ∷ behind 0
-comments behind (in_block depth) n (c ∷ cs) =
-    if c == 47 && first_or_zero cs == 42 then put c (comments behind (second (in_block (suc depth))) n cs)
-    else if c == 42 && first_or_zero cs == 47 then put c (comments behind (second (out_of_block depth)) n cs)
-    else put c (comments behind (in_block depth) n cs)
-comments behind (second p) n [] = comment OpenComment n ∷ behind 0
-comments behind (second outside) n (c ∷ cs) = put c (comment BlockComment n ∷ comments behind outside 0 cs)
-comments behind (second p) n (c ∷ cs) = put c (comments behind p n cs)
+comments following outside n [] = following n
+comments following outside n (c ∷ cs) =
+    if c == 47 && first_or_zero cs == 47 then put c (comments following (second in_line) n cs)
+    else if c == 47 && first_or_zero cs == 42 then put c (comments following (second (in_block 0)) n cs)
+    else comments following outside (n + line_ends_at c cs) cs
+comments following in_line n [] = comment LineComment n ∷ following 0
+comments following in_line n (c ∷ cs) =
+    if is_line_break c then comment LineComment n ∷ comments following outside (line_ends_at c cs) cs
+    else put_in_line c (comments following in_line n cs)
+comments following (in_block depth) n [] = comment OpenComment n ∷ following 0
+comments following (in_block depth) n (c ∷ cs) =
+    if c == 47 && first_or_zero cs == 42 then put c (comments following (second (in_block (suc depth))) n cs)
+    else if c == 42 && first_or_zero cs == 47 then put c (comments following (second (out_of_block depth)) n cs)
+    else put c (comments following (in_block depth) n cs)
+comments following (second p) n [] = comment OpenComment n ∷ following 0
+comments following (second outside) n (c ∷ cs) = put c (comment BlockComment n ∷ comments following outside 0 cs)
+comments following (second p) n (c ∷ cs) = put c (comments following p n cs)
 
 -- ---- all pieces
 
@@ -69,7 +69,7 @@ comments behind (second p) n (c ∷ cs) = put c (comments behind p n cs)
 abbrev pub between : List ℕ → ℕ → ℕ → List ℕ
 between source from to = chars (take (to - from) (drop from (encode_utf8_all source)))
 
--- a token of a source, after so many line ends
+-- a token of a source, after a number of line ends
 abbrev pub piece_of : List ℕ → Token → ℕ → Piece
 piece_of source t n = record { class = t.class; text = between source t.start t.end; line_ends = n }
 

@@ -1,4 +1,4 @@
--- What a token does where it stands, by its class and by whether an operand ends before it.
+-- What a token does where it is, by its class and by whether an operand ends before it.
 use Rattle.std.specs.Prelude.{ℕ, Bool, true, false, ◌==◌, if◌then◌else◌, [], ◌∷◌}
 use Rattle.grammar.specs.Grammar.{is_among}
 use Rattle.wgsl_model.specs.Tokens.ClassTable.{SymAnd, SymAndAnd, SymAttr, SymForwardSlash, SymBang, SymBracketLeft, SymBracketRight, SymBraceLeft, SymBraceRight, SymColon, SymComma, SymEqual, SymEqualEqual, SymNotEqual, SymGreaterThan, SymGreaterThanEqual, SymShiftRight, SymLessThan, SymLessThanEqual, SymShiftLeft, SymModulo, SymMinus, SymMinusMinus, SymPeriod, SymPlus, SymPlusPlus, SymOr, SymOrOr, SymParenLeft, SymParenRight, SymSemicolon, SymStar, SymTilde, SymXor, SymPlusEqual, SymMinusEqual, SymTimesEqual, SymDivisionEqual, SymModuloEqual, SymAndEqual, SymOrEqual, SymXorEqual, SymShiftRightAssign, SymShiftLeftAssign, KwDiagnostic, KwElse, KwFalse, KwTrue, Ident, ReservedWord, AbstractInt, I32, U32, AbstractFloat, F32, F16, TemplateArgsStart, TemplateArgsEnd}
@@ -85,7 +85,7 @@ wants_operand ampersand = true
 wants_operand prefix = true
 wants_operand role = false
 
--- nothing stands before it: `,` `;` `:` `)` `]`
+-- nothing is before it: `,` `;` `:` `)` `]`
 abbrev pub is_tight : Role → Bool
 is_tight comma = true
 is_tight semicolon = true
@@ -128,7 +128,7 @@ begins_item block_end = true
 begins_item attribute = true
 begins_item role = false
 
--- the operators that stand between operands alone, and those of assignments
+-- the operators that are between operands alone, and those of assignments
 abbrev pub is_operator : ℕ → Bool
 is_operator class =
     is_among class (SymAndAnd ∷ SymOrOr ∷ SymOr ∷ SymXor ∷ SymPlus ∷ SymForwardSlash ∷ SymModulo
@@ -138,7 +138,7 @@ is_operator class =
     ∷ SymOrEqual ∷ SymXorEqual ∷
     SymShiftRightAssign ∷ SymShiftLeftAssign ∷ [])
 
--- `-`, `&` and `*` stand between operands after an operand, else before one
+-- `-`, `&` and `*` are between operands after an operand, else before one
 abbrev pub sign_role : Bool → ℕ → Role
 sign_role true class = binary
 sign_role false class = if class == SymMinus then minus else if class == SymAnd then ampersand else prefix
@@ -146,7 +146,7 @@ sign_role false class = if class == SymMinus then minus else if class == SymAnd 
 -- what a token of a class does, after an operand or not, `--` as in a decrement; `diagnostic` has
 -- its arguments after it, as a name has
 abbrev pub role_of : Bool → ℕ → Role
-role_of behind_operand class =
+role_of after_operand class =
     if is_among class (Ident ∷ ReservedWord ∷ KwTrue ∷ KwFalse ∷ KwDiagnostic ∷ []) then name
     else if class == AbstractInt then unsuffixed
     else if is_among class (I32 ∷ U32 ∷ AbstractFloat ∷ F32 ∷ F16 ∷ []) then number
@@ -162,7 +162,7 @@ role_of behind_operand class =
     else if class == SymColon then colon
     else if class == SymPeriod then period
     else if class == SymAttr then at
-    else if is_among class (SymMinus ∷ SymAnd ∷ SymStar ∷ []) then sign_role behind_operand class
+    else if is_among class (SymMinus ∷ SymAnd ∷ SymStar ∷ []) then sign_role after_operand class
     else if is_among class (SymBang ∷ SymTilde ∷ []) then prefix
     else if is_among class (SymPlusPlus ∷ SymMinusMinus ∷ []) then step
     else if is_operator class then binary

@@ -20,7 +20,7 @@ abbrev pub IsSyntaxFaultOf : List ℕ → Fault → Type 0
 IsSyntaxFaultOf source x = (ts : List Token) × (ending : Ending) × IsTokenList source ts ending
     × IsSyntaxFault ts ending x
 
--- a fault in a text, with its place in a source that has so many bytes before the text
+-- a fault in a text, with its place in a source that has a number of bytes before the text
 abbrev pub fault_after : ℕ → Fault → Fault
 fault_after n x =
     record { kind = x.kind; texts = x.texts; span = record { start = n + x.span.start; end = n + x.span.end } }

@@ -1,2 +1,2 @@
-//! What the text of a module is laid out as: its tokens and comments, and what stands between them.
+//! What the text of a module is formatted as: its tokens and comments, and what is between them.
 #![tactic(auto)]

@@ -77,7 +77,7 @@ pub use Rattle.wgsl_tree_attribute.specs.VariantsNodes as AttributeVariants
 pub use Rattle.wgsl_tree_simple.specs.VariantsNodes as SimpleStatementVariants
 pub use Rattle.wgsl_tree_simple.specs.Kinds as KindWords
 pub use Rattle.wgsl_tree_unit.specs.VariantsNodes as UnitVariants
--- errors, and what is answered of texts and of the tokens of iterators
+-- errors, and what is returned for texts and of the tokens of iterators
 pub use Rattle.wgsl_error.specs.Kinds as ErrorKinds
 pub use Rattle.wgsl_error.specs.Places as MarkedLines
 pub use Rattle.wgsl_error.specs.Printing as PrintedErrors
@@ -113,7 +113,7 @@ pub use Rattle.wgsl_tree_unit.specs.Equality as UnitEquality
 pub use Rattle.wgsl_tree_path.specs.Equality as PathEquality
 -- the tokens that are written from a tree
 pub use Rattle.wgsl_theory_reread.specs.CanonicalUnits
--- modules laid out
+-- modules formatted
 pub use Rattle.wgsl_model_tidy.specs.Pieces as TextPieces
 pub use Rattle.wgsl_model_tidy.specs.Roles as TokenRoles
 pub use Rattle.wgsl_model_tidy.specs.Joints as TokenJoints

@@ -77,13 +77,13 @@ pub mod laws {
     };
     pub use wgsl_laws::spelling::longest_spelling;
     pub use wgsl_laws::tokens::{
-        lists_within_lists, nothing_behind_the_end, one_list_left, one_token_list, tokens_in_order,
+        lists_within_lists, nothing_after_the_end, one_list_left, one_token_list, tokens_in_order,
     };
     pub use wgsl_laws::trees::{spans_unprinted, voids_twice};
 
     /// That `==` of trees is an equivalence, and where two trees are equal: where they are one with
-    /// their spans set aside. The laws that stand here speak of plain trees; those of the nodes
-    /// themselves stand in the modules below.
+    /// their spans set aside. The laws that are here speak of plain trees; those of the nodes
+    /// themselves are in the modules below.
     pub mod equality {
         pub use wgsl_laws::equality_nodes::{
             branches, calls, declarations, directives, equivalence, expressions,

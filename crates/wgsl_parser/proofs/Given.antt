@@ -1,4 +1,4 @@
--- What is answered of the tokens that an iterator gave.
+-- What is returned for the tokens that an iterator gave.
 use Rattle.std.proofs.Common.{◌≡◌, inl, inr, subst}
 use Rattle.std.specs.Prelude.{Option, Result, Ok, Err}
 use Rattle.wgsl_model.specs.Grammar.Symbols.{Symbol, Value}
@@ -11,7 +11,7 @@ use Rattle.wgsl_lexer.specs.Placed.{tokens_view, ending_view}
 use Rattle.wgsl_read_cursor.specs.Answers.{Answered}
 use Rattle.wgsl_parser.specs.Iterators.{Derived, IsParsed}
 
--- what is answered of the tokens that it gave
+-- what is returned for the tokens that it gave
 pub parsed_is : (n : Symbol) {X S : Type 0} (view : X → Value n) (starts : S → Type 0)
     (steps : S → Option TokenItem → S → Type 0) (it : S) (found : Collected) (result : Result X Error)
     → starts it → Gave steps it found

@@ -1,4 +1,4 @@
--- What is answered of the tokens of a template list.
+-- What is returned for the tokens of a template list.
 use Rattle.std.proofs.Common.{◌≡◌, ℕ, ◌-◌, ◌<◌, suc, List, [], ◌∷◌, map, length, get_or, inl, inr, sym, ap, ap₂, subst, ◌∙◌, arith, Ok, Err, Result}
 use Rattle.std.specs.Prelude.{Option}
 use Rattle.grammar.specs.Tokens.{Token, last_end}
@@ -42,7 +42,7 @@ pub span_answered : {X : Type 0} (view : X → List plain.ExpressionNode) (ts : 
 span_answered view ts ending span read v a is h =
     (view v, subst (λ r. Answered view r (answer_of template_list ts ending)) is a, h)
 
--- what is answered of the tokens that an iterator gave
+-- what is returned for the tokens that an iterator gave
 pub span_parsed : {S : Type 0} (starts : S → Type 0) (steps : S → Option TokenItem → S → Type 0)
     (it : S) (found : Collected) (result : Result Span Error) → starts it → Gave steps it found
     → SpanAnswered result (tokens_view found) (ending_view found.error)

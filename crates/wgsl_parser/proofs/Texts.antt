@@ -1,4 +1,4 @@
--- What is answered of the tokens of a text says of the text what is promised.
+-- What is returned for the tokens of a text says of the text what is promised.
 use Rattle.std.proofs.Common.{◌≡◌, ℕ, List, inl, inr, subst}
 use Rattle.std.specs.Prelude.{Result, Ok, Err, chars, length}
 use Rattle.std.specs.Str.{IsUtf8}
@@ -17,7 +17,7 @@ use Rattle.wgsl_read_cursor.proofs.Places.{named_within, memory_within}
 use Rattle.wgsl_model.specs.SourceTrees.{IsTreeOf}
 use Rattle.wgsl_parser.specs.Sources.{IsRead}
 
--- what is answered of the tokens of a text
+-- what is returned for the tokens of a text
 pub read_is : (n : Symbol) {X : Type 0} (view : X → Value n) (source : List ℕ) (ts : List Token)
     (ending : Ending) (result : Result X Error) → IsUtf8 source → IsTokenList (chars source) ts ending
     → Answered view result (answer_of n ts ending)

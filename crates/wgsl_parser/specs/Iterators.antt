@@ -1,4 +1,4 @@
--- What is answered of the tokens that an iterator gives.
+-- What is returned for the tokens that an iterator gives.
 use Rattle.std.specs.Prelude.{◌≡◌, ◌⊎◌, Option, Result, IfOk, IfErr}
 use Rattle.grammar.specs.Grammar.{Mode.checking, Derives}
 use Rattle.grammar.specs.Endings.{Ending.finished}
@@ -24,8 +24,8 @@ Refused n e found = IsNamed n (tokens_view found) (ending_view found.error) (fau
 abbrev pub Collects : {S : Type 0} → (S → Type 0) → (S → Option TokenItem → S → Type 0) → Collected → Type 0
 Collects {S} starts steps found = (it : S) × starts it × Gave steps it found
 
--- What is answered of what an iterator gave up to its first error: Ok only with what the tokens
--- are; else that memory was refused, or the fault that is named.
+-- What is returned for what an iterator gave up to its first error: Ok only with what the tokens
+-- are; else that an allocation failed, or the fault that is named.
 pub record IsParsed {X S : Type 0} (n : Symbol) (accepts : X → Collected → Type 0) (starts : S → Type 0)
     (steps : S → Option TokenItem → S → Type 0) (result : Result X Error) : Type 0 where
   pub accepted : IfOk result (λ v. (found : Collected) × Collects starts steps found × accepts v found)

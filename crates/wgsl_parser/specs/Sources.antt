@@ -1,4 +1,4 @@
--- What is answered of a text where one of the symbols is wanted that are read by themselves.
+-- What is returned for a text where one of the symbols is wanted that are read by themselves.
 use Rattle.std.specs.Prelude.{◌⊎◌, ℕ, List, chars, length, Result, IfOk, IfErr}
 use Rattle.wgsl_model.specs.Grammar.Symbols.{Symbol}
 use Rattle.wgsl_model.specs.SourceTrees.{IsFaultIn}
@@ -7,8 +7,8 @@ use Rattle.wgsl_error.specs.View.{fault_view}
 use Rattle.wgsl_read_cursor.specs.Answers.{IsOutOfMemory}
 use Rattle.wgsl_read_cursor.specs.Places.{StandsWithin}
 
--- What is answered of a source: Ok only with what it is; else that memory was refused, or the fault
--- that is named; either stands in the text or ends one byte past it.
+-- What is returned for a source: Ok only with what it is; else that an allocation failed, or the
+-- fault that is named; either is in the text or ends one byte past it.
 pub record IsRead {X : Type 0} (n : Symbol) (accepts : X → Type 0) (source : List ℕ)
     (result : Result X Error) : Type 0 where
   pub accepted : IfOk result accepts

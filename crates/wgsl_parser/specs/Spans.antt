@@ -15,7 +15,7 @@ use Rattle.wgsl_read_cursor.specs.Answers.{IsOutOfMemory}
 abbrev pub IsSpanOf : Span → List Token → Type 0
 IsSpanOf span ts = span_view span ≡ span_of ts
 
--- what is answered of tokens that ended so: the span of the template list that they are, or an
+-- what is returned for tokens that ended so: the span of the template list that they are, or an
 -- error, unless memory ran out
 abbrev pub SpanAnswered : Result Span Error → List Token → Ending → Type 0
 SpanAnswered (Ok span) ts ending = (es : List ExpressionNode)

@@ -22,7 +22,7 @@ use wgsl_tree_unit::{GlobalDeclaration, GlobalDeclarationNode, GlobalDirective, 
 
 /// What can be read from a text, whole and by itself.
 pub trait FromSource: Sized {
-    // What is answered of a source.
+    // What is returned for a source.
     ghost reads: { List ℕ → Result Self Error → Type 0 };
 
     /// What the text is, or what is wrong with it. The span of a node is left out: it is that of

@@ -14,7 +14,7 @@ use wgsl_tree_unit::TranslationUnit;
 
 /// The module that a text is, or what is wrong with it: the checked fault that ends first, as a
 /// reserved word in place of a name or an attribute whose arguments do not fit, if it ends before
-/// the first token that can't stand where it stands; else that token; else the text that is no
+/// the first token that can't are where it is; else that token; else the text that is no
 /// token; else that the text ends too early.
 pub fn parse_str(alloc: Global, source: &str) -> Result<TranslationUnit, Error>
     ensures accepted { IfOk result (λ unit. IsUnit (chars source.now) (unit_view unit)) }
@@ -26,8 +26,8 @@ pub fn parse_str(alloc: Global, source: &str) -> Result<TranslationUnit, Error>
 }
 
 /// `parse_str` on a stack that grows with a depth: where statements and expressions nest deeper
-/// than so many levels, the error is of the kind `OutOfMemory`. Each statement inside another, each
-/// expression inside another and each operator before an operand is a level.
+/// than a number of levels, the error is of the kind `OutOfMemory`. Each statement inside another,
+/// each expression inside another and each operator before an operand is a level.
 pub fn parse_within(alloc: Global, source: &str, depth: usize) -> Result<TranslationUnit, Error>
     ensures accepted { IfOk result (λ unit. IsUnit (chars source.now) (unit_view unit)) }
     ensures refused { IfErr result (λ e.

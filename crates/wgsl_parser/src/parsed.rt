@@ -32,7 +32,7 @@ pub(crate) trait Parsed: Sized + Drop {
     fn parse(alloc: Global, tokens: &mut Cursor) -> Result<Self, Fault>
         ensures { Gives view result (state tokens.new) (reader (of symbol) (state tokens.old)) };
 
-    /// What could stand after it, where a token is left.
+    /// What could be after it, where a token is left.
     fn expected_after(read: &Result<Self, Fault>) -> Expected;
 }
 
@@ -45,7 +45,7 @@ impl Parsed for TranslationUnit {
         parse_translation_unit(alloc, tokens)
     }
 
-    /// More declarations, and directives where no declaration stands yet.
+    /// More declarations, and directives where no declaration is yet.
     fn expected_after(read: &Result<Self, Fault>) -> Expected {
         match read {
             Ok(unit) if unit.global_declarations.is_empty() => Expected::DIRECTIVE_OR_DECLARATION,

@@ -27,7 +27,7 @@ impl TranslationUnitParser {
         TranslationUnitParser
     }
 
-    /// What the tokens are, or what is wrong with them. Behind its first error the iterator is
+    /// What the tokens are, or what is wrong with them. After its first error the iterator is
     /// asked for nothing more.
     pub fn parse<T: TokenIterator>(
         &self,
@@ -50,7 +50,7 @@ impl GlobalDirectiveParser {
         GlobalDirectiveParser
     }
 
-    /// What the tokens are, or what is wrong with them. Behind its first error the iterator is
+    /// What the tokens are, or what is wrong with them. After its first error the iterator is
     /// asked for nothing more.
     pub fn parse<T: TokenIterator>(
         &self,
@@ -74,7 +74,7 @@ impl GlobalDeclParser {
         GlobalDeclParser
     }
 
-    /// What the tokens are, or what is wrong with them. Behind its first error the iterator is
+    /// What the tokens are, or what is wrong with them. After its first error the iterator is
     /// asked for nothing more.
     #[tactic(auto, using(crate::proofs::Given::refused_alike))]
     pub fn parse<T: TokenIterator>(
@@ -99,7 +99,7 @@ impl StatementParser {
         StatementParser
     }
 
-    /// What the tokens are, or what is wrong with them. Behind its first error the iterator is
+    /// What the tokens are, or what is wrong with them. After its first error the iterator is
     /// asked for nothing more.
     #[tactic(auto, using(crate::proofs::Given::refused_alike))]
     pub fn parse<T: TokenIterator>(&self, alloc: Global, tokens: T) -> Result<Statement, Error>
@@ -120,7 +120,7 @@ impl ExpressionParser {
         ExpressionParser
     }
 
-    /// What the tokens are, or what is wrong with them. Behind its first error the iterator is
+    /// What the tokens are, or what is wrong with them. After its first error the iterator is
     /// asked for nothing more.
     #[tactic(auto, using(crate::proofs::Given::refused_alike))]
     pub fn parse<T: TokenIterator>(&self, alloc: Global, tokens: T) -> Result<Expression, Error>
@@ -140,7 +140,7 @@ impl LiteralParser {
         LiteralParser
     }
 
-    /// What the tokens are, or what is wrong with them. Behind its first error the iterator is
+    /// What the tokens are, or what is wrong with them. After its first error the iterator is
     /// asked for nothing more.
     pub fn parse<T: TokenIterator>(
         &self,

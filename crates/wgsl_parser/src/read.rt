@@ -29,7 +29,7 @@ fn read_all<P: Parsed>(alloc: Global, source: TokenSource) -> Result<P, Error>
     source.answer(alloc, read, expected)
 }
 
-/// What a text is, which may nest so many levels deep.
+/// What a text is, which may nest a number of levels deep.
 pub(crate) fn read_text<P: Parsed>(alloc: Global, source: &str, depth: usize) -> Result<P, Error>
     ensures { IsRead P.symbol
         (λ v. IsTreeOf P.symbol (chars source.now) (P.view v)) source.now result }

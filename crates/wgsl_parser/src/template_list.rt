@@ -70,7 +70,7 @@ impl TryTemplateListParser {
     }
 
     /// The span of the template list that the tokens are, from its start to its end, or what is
-    /// wrong with them. Behind its first error the iterator is asked for nothing more.
+    /// wrong with them. After its first error the iterator is asked for nothing more.
     pub fn parse<T: TokenIterator>(&self, alloc: Global, tokens: T) -> Result<Span, Error>
         ensures { IsParsed template_list (λ span found. (es : List plain.ExpressionNode) ×
             Derived template_list es found × IsSpanOf span (tokens_view found))

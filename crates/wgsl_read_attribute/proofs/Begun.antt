@@ -26,13 +26,13 @@ StartsAt start attributes = (b : Spanned Attribute) × (more : Attributes) × (a
 abbrev grown : Attributes → Spanned Attribute → plain.Span → Attributes
 grown xs x span = xs ++ (x ∷ [])
 
--- what holds wherever what comes behind a reading is done
+-- what holds wherever what comes after a reading is done
 of_read : {A B : Type 0} (m : Read A) (f : A → State → Read B) (P : Type 0) (b : B) (s' : State)
     → ((a : A) (s : State) → f a s ≡ done b s' → P) → (m >>= f) ≡ done b s' → P
 of_read (done a s) f P b s' h q = h a s q
 of_read (stop e) f P b s' h q = absurd cc
 
--- what is read behind some attributes begins with the first of them
+-- what is read after some attributes begins with the first of them
 turns_start : (k start first : ℕ) (xs : Attributes) (s : State) (a : Attributes) (s' : State)
     → StartsAt first xs → turns_in k grown (SymAttr ∷ []) attribute_node_at start xs s ≡ done a s'
     → StartsAt first a
@@ -75,7 +75,7 @@ node_start : (s : State) (x : Spanned Attribute) (s' : State) → attribute_node
     → x.span.start ≡ next_start s
 node_start s x s' h = parts_start (next_start s) (attribute_parts_at s) x s' (sym (attribute_node_is s) ∙ h)
 
--- the place of what stands behind attributes, from the first of them on, is one from where they
+-- the place of what is after attributes, from the first of them on, is one from where they
 -- begin
 first_begun : (s : State) (a : Attributes) (s' end : State)
     → attributes_turn (next_start s) [] s ≡ done a s'

@@ -36,16 +36,16 @@ pub attribute_parts_is : (s : State) → attribute_parts_at s
 unfolding attribute_parts_at attribute_name_at optional_arguments_at
 attribute_parts_is s = refl
 
-after_taken : (b : Bool) (left behind s' : State) (t u : plain.Token)
-    → cond b (done t behind) (refused left) ≡ done u s' → behind ≡ s'
-after_taken true left behind s' t u h = cc
-after_taken false left behind s' t u h = absurd (none_taken left.end left.rest s' u h)
+after_taken : (b : Bool) (left following s' : State) (t u : plain.Token)
+    → cond b (done t following) (refused left) ≡ done u s' → following ≡ s'
+after_taken true left following s' t u h = cc
+after_taken false left following s' t u h = absurd (none_taken left.end left.rest s' u h)
   where
     none_taken : (end : ℕ) (ts : List plain.Token) (s' : State) (u : plain.Token) → refused_at end ts ≡ done u s' → ⊥
     none_taken end [] s' u h = cc
     none_taken end (t ∷ ts) s' u h = cc
 
--- what is left behind a token that was taken
+-- what is left after a token that was taken
 pub taken_is : (c : ℕ) (s s' : State) (t : plain.Token) → take c s ≡ done t s' → after s ≡ s'
 unfolding take
 taken_is c s s' t h = after_taken (is_at c s) s (after s) s' (first_of s) t h

@@ -14,11 +14,11 @@ map_reverse f (x ∷ xs) =
     ∙ sym (reverse-append (f x ∷ []) (map f xs))
 
 -- what comes before some types, the last of which was met first
-abbrev pub behind : List TypeExpression → Option (List TypeExpression) → Option (List TypeExpression)
-behind ts = option_map (λ front. front ++ reverse ts)
+abbrev pub following : List TypeExpression → Option (List TypeExpression) → Option (List TypeExpression)
+following ts = option_map (λ front. front ++ reverse ts)
 
 one_more : (t : TypeExpression) (ts : List TypeExpression) (o : Option (List TypeExpression))
-    → behind ts (option_map (λ front. front ++ (t ∷ [])) o) ≡ behind (ts ++ (t ∷ [])) o
+    → following ts (option_map (λ front. front ++ (t ∷ [])) o) ≡ following (ts ++ (t ∷ [])) o
 one_more t ts None = refl
 one_more t ts (Some front) = ap Some
     (append_assoc front (t ∷ []) (reverse ts) ∙ ap (λ l. front ++ l) (sym (reverse-append ts (t ∷ []))))
@@ -26,27 +26,27 @@ one_more t ts (Some front) = ap Some
 -- one type more was met
 pub met : (whole : Option (List TypeExpression)) (rest front : Option Expression)
     (joined : Expression) (t : TypeExpression) (ts us : List TypeExpression)
-    → whole ≡ behind ts (variants_before rest)
+    → whole ≡ following ts (variants_before rest)
     → rest ≡ Some joined
     → variants_in joined ≡ option_map (λ first. first ++ (t ∷ [])) (variants_before front)
     → us ≡ ts ++ (t ∷ [])
-    → whole ≡ behind us (variants_before front)
+    → whole ≡ following us (variants_before front)
 met whole rest front joined t ts us h r j u =
     h
-    ∙ ap (λ x. behind ts (variants_before x)) r
-    ∙ ap (behind ts) j
+    ∙ ap (λ x. following ts (variants_before x)) r
+    ∙ ap (following ts) j
     ∙ one_more t ts (variants_before front)
-    ∙ ap (λ x. behind x (variants_before front)) (sym u)
+    ∙ ap (λ x. following x (variants_before front)) (sym u)
 
 -- all were met
 pub all_met : {X : Type 0} (view : X → TypeExpression) (whole : Option (List TypeExpression))
     (rest : Option Expression) (types turned : List X)
-    → whole ≡ behind (map view types) (variants_before rest)
+    → whole ≡ following (map view types) (variants_before rest)
     → rest ≡ None
     → turned ≡ reverse types
     → Some (map view turned) ≡ whole
 all_met view whole rest types turned h r t =
     ap (λ l. Some (map view l)) t
     ∙ ap Some (map_reverse view types)
-    ∙ sym (ap (λ x. behind (map view types) (variants_before x)) r)
+    ∙ sym (ap (λ x. following (map view types) (variants_before x)) r)
     ∙ sym h

@@ -54,7 +54,7 @@ interpolation_of _ = None
 abbrev pub interpolation : Arguments → Option InterpolateAttribute
 interpolation arguments = interpolation_of (arguments_of arguments)
 
--- what comes behind what is right
+-- what comes after what is right
 abbrev pub and_then : {A B : Type 0} → Checked A → (A → Checked B) → Checked B
 and_then (right a) f = f a
 and_then (wrong text) f = wrong text

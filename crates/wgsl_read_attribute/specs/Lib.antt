@@ -3,5 +3,5 @@ pub mod Counted
 pub mod Makes
 pub mod Settles
 pub mod Rules
-pub mod Behind
+pub mod After
 pub mod Variants

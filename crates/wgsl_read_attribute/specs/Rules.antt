@@ -27,7 +27,7 @@ attribute_parts_at s = go tables reader
 unfoldable pub attribute_node_at : State → Read (Spanned Attribute)
 attribute_node_at s = go tables reader (symbol (of attribute) gives attribute_node) s
 
--- further attributes behind some
+-- further attributes after some
 unfoldable pub attributes_from : ℕ → Attributes → State → Read Attributes
 attributes_from start attributes s =
     turns (λ (xs : Attributes) (x : Spanned Attribute) span. xs ++ (x ∷ []))

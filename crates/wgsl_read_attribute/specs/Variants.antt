@@ -4,7 +4,7 @@ use Rattle.wgsl_model.specs.Trees.Expressions.{Expression, TypeExpression}
 use Rattle.wgsl_model.specs.Grammar.Checks.{variants_in}
 use Rattle.wgsl_tree_expression.specs.Chains.{steps_of}
 
--- those of what stands before the last `|`, if one stands
+-- those of what is before the last `|`, if one is
 abbrev pub variants_before : Option Expression → Option (List TypeExpression)
 variants_before None = Some []
 variants_before (Some e) = variants_in e

@@ -13,7 +13,7 @@ use std::alloc::AllocError;
 use wgsl_tree_attribute::Attribute;
 use wgsl_tree_expression::ExpressionNode;
 
-/// Why arguments make no value: the name that they are behind and what is wrong with them, or that
+/// Why arguments make no value: the name that they are after and what is wrong with them, or that
 /// memory ran out.
 #[derive(Drop)]
 pub(crate) enum Refusal {

@@ -133,7 +133,7 @@ fn variants(
     Ok(Some(types))
 }
 
-/// The last of the types that an expression joins by `|`, behind what stands before it.
+/// The last of the types that an expression joins by `|`, after what is before it.
 fn last_variant(expression: Expression) -> Option<(Option<Expression>, TypeExpression)>
     ensures some { IfSome result (λ parts. variants_in (expression_view expression)
         ≡ option_map (λ front. front ++ (type_expression_view parts.1 ∷ []))

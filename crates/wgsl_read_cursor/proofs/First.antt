@@ -3,7 +3,7 @@ use Rattle.std.proofs.Common.{◌≡◌, ◌↔◌, ℕ, ◌<◌, true, false, L
 use Rattle.std.proofs.lemmas.Bool.{eq-eqb}
 use Rattle.std.specs.Prelude.{drop, is_none, option_map, MatchOption}
 use Rattle.grammar.specs.Tokens.{Token}
-use Rattle.grammar.specs.States.{is_first, first_start, behind}
+use Rattle.grammar.specs.States.{is_first, first_start, following}
 use Rattle.wgsl_span.specs.declared.Span.{Span}
 use Rattle.wgsl_lex_token.specs.declared.kind_table.TokenKind.{TokenKind}
 use Rattle.wgsl_lex_token.specs.View.{class_of_kind}
@@ -56,22 +56,22 @@ first_place [] span h = absurd h
 first_place (t ∷ ts) span h = sym h.0
 
 -- where it ends
-pub first_end : (end : ℕ) (ts : List Token) (span : Span) → BeginAt ts span → span.end ≡ (behind end ts).end
+pub first_end : (end : ℕ) (ts : List Token) (span : Span) → BeginAt ts span → span.end ≡ (following end ts).end
 first_end end [] span h = absurd h
 first_end end (t ∷ ts) span h = sym h.1
 
-pub none_end : (end : ℕ) (ts : List Token) → ts ≡ [] → end ≡ (behind end ts).end
+pub none_end : (end : ℕ) (ts : List Token) → ts ≡ [] → end ≡ (following end ts).end
 none_end end [] h = refl
 none_end end (t ∷ ts) h = absurd cc
 
--- what is behind it
-pub behind_first : (end place : ℕ) (ts us : List Token) → place ≡ (behind end ts).end
-    → us ≡ drop 1 ts → record { end = place; rest = us } ≡ behind end ts
-behind_first end place [] us p s = ap₂ (λ (e : ℕ) (r : List Token). record { end = e; rest = r }) p s
-behind_first end place (t ∷ ts) us p s = ap₂ (λ (e : ℕ) (r : List Token). record { end = e; rest = r }) p s
+-- what is after it
+pub after_first : (end place : ℕ) (ts us : List Token) → place ≡ (following end ts).end
+    → us ≡ drop 1 ts → record { end = place; rest = us } ≡ following end ts
+after_first end place [] us p s = ap₂ (λ (e : ℕ) (r : List Token). record { end = e; rest = r }) p s
+after_first end place (t ∷ ts) us p s = ap₂ (λ (e : ℕ) (r : List Token). record { end = e; rest = r }) p s
 
--- fewer tokens are behind it
-pub fewer_behind : (class end : ℕ) (ts : List Token) → is_first class ts ≡ true
-    → length (behind end ts).rest < length ts
-fewer_behind class end [] h = absurd cc
-fewer_behind class end (t ∷ ts) h = omega arith
+-- fewer tokens are after it
+pub fewer_after : (class end : ℕ) (ts : List Token) → is_first class ts ≡ true
+    → length (following end ts).rest < length ts
+fewer_after class end [] h = absurd cc
+fewer_after class end (t ∷ ts) h = omega arith

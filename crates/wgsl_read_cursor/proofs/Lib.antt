@@ -1,4 +1,4 @@
-pub mod Behind
+pub mod After
 pub mod Origins
 pub mod Seen
 pub mod Places

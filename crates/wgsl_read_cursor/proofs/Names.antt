@@ -1,4 +1,4 @@
--- A name that stands next is read.
+-- A name that is next is read.
 use Rattle.std.proofs.Common.{◌≡◌, ℕ, List, [], ◌∷◌, sym, subst, ap}
 use Rattle.grammar.specs.Tokens.{Token}
 use Rattle.grammar.specs.States.{done, is_at, first_of, after, take}

@@ -19,7 +19,7 @@ use Rattle.wgsl_read_cursor.specs.declared.origin.Origin.TheVariants as origin
 use Rattle.wgsl_read_cursor.specs.Sources.{tokens_to_read}
 use Rattle.wgsl_read_cursor.specs.Origins.{AreOf, IsRefusedOf, IsReadTo}
 
--- ---- a text never ends because memory was refused
+-- ---- a text never ends because an allocation failed
 list_ends : (total : ℕ) (text : List ℕ) (ts : List Token) (ending : Ending)
     → TokensOf total text ts ending → wants_memory ending ≡ false
 list_ends total text ts ending (at_end t r) = refl

@@ -1,4 +1,4 @@
--- The fault that is named of a text stands in it, or ends one byte past it.
+-- The fault that is named of a text is in it, or ends one byte past it.
 use Rattle.std.proofs.Common.{◌≡◌, ℕ, ◌+◌, ◌≤◌, Bool, true, false, List, [], ◌∷◌, ◌++◌, refl, sym, ap, subst, ◌∙◌, arith, if◌then◌else◌, nat_lt, append_assoc}
 use Rattle.std.specs.Prelude.{Some}
 use Rattle.grammar.specs.Tokens.{Token, Fault, Span, last_end, span_of}
@@ -9,13 +9,13 @@ use Rattle.wgsl_model.specs.Faults.Checked.{IsCheckedFault, IsCheckedFault.reser
 use Rattle.wgsl_model.specs.Faults.NamedFault.{IsNamed, IsNamed.checked_first, IsNamed.unexpected_first, IsNamed.carried_last, IsNamed.missing_last, IsNamedUnchecked, IsNamedUnchecked.unchecked_unexpected, IsNamedUnchecked.unchecked_carried, IsNamedUnchecked.unchecked_missing}
 use Rattle.wgsl_model.specs.Grammar.Symbols.{Dialect, Symbol}
 use Rattle.wgsl_model.specs.Tokens.TokenList.{IsTokenList, width}
-use Rattle.wgsl_lexer.specs.InOrder.{AreInOrder, IsFaultBehind}
+use Rattle.wgsl_lexer.specs.InOrder.{AreInOrder, IsFaultAfter}
 use Rattle.wgsl_error.specs.declared.Error.{Error}
 use Rattle.wgsl_read_cursor.specs.Answers.{IsOutOfMemory}
 use Rattle.wgsl_read_cursor.specs.Places.{StandsWithin}
-use Rattle.wgsl_lexer.proofs.InOrder.{tokens_in_order, fault_behind, one_in_order, last_in_order}
+use Rattle.wgsl_lexer.proofs.InOrder.{tokens_in_order, fault_after, one_in_order, last_in_order}
 
--- a span in a text of so many bytes, or that ends one byte past it
+-- a span in a text of a number of bytes, or that ends one byte past it
 abbrev Within : Span → ℕ → Type 0
 Within s size = (s.start ≤ s.end) × (s.end ≤ size + 1)
 
@@ -23,12 +23,12 @@ Within s size = (s.start ≤ s.end) × (s.end ≤ size + 1)
 token_within : (to : ℕ) (p us : List Token) (t : Token) → AreInOrder 0 (p ++ (t ∷ us)) to → Within (span_of_token t) to
 token_within to p us t h = let o = one_in_order 0 to p us t h in (omega (arith, o.1), omega (arith, o.2))
 
--- what stands behind tokens in order is in order
-behind_in_order : (from to : ℕ) (p us : List Token) → AreInOrder from (p ++ us) to → AreInOrder (last_end from p) us to
-behind_in_order from to [] us h = h
-behind_in_order from to (t ∷ p) us h = behind_in_order t.end to p us h.2
+-- what is after tokens in order is in order
+after_in_order : (from to : ℕ) (p us : List Token) → AreInOrder from (p ++ us) to → AreInOrder (last_end from p) us to
+after_in_order from to [] us h = h
+after_in_order from to (t ∷ p) us h = after_in_order t.end to p us h.2
 
--- what stands before others ends before them
+-- what is before others ends before them
 before_in_order : (from to : ℕ) (p us : List Token) → AreInOrder from (p ++ us) to
     → (from ≤ last_end from p) × (last_end from p ≤ to)
 before_in_order from to [] us h = let k = last_in_order from to us h in (omega arith, omega (arith, k.0, k.1))
@@ -39,7 +39,7 @@ slice_within : (to : ℕ) (before slice ys : List Token) → AreInOrder 0 (befor
     → Within (span_of slice) to
 slice_within to before [] ys h = (omega arith, omega arith)
 slice_within to before (t ∷ slice) ys h =
-    let from = behind_in_order 0 to before ((t ∷ slice) ++ ys) h in
+    let from = after_in_order 0 to before ((t ∷ slice) ++ ys) h in
     let k = before_in_order t.end to slice ys from.2 in
     (omega (arith, from.1, k.0), omega (arith, k.1))
 
@@ -64,7 +64,7 @@ checked_within to ts ending x ys h (var_template_fault (before, slice, es, e, n,
     subst (λ (s : Span). Within s to) (sym (span_in _ _ (span_of slice) x (λ text. refl) is))
     (slice_within to before slice ys (subst (λ z. AreInOrder 0 z to) e h))
 
--- the place behind a place
+-- the place after a place
 next_is : (p : ℕ) → (p ≤ next_place p) × (next_place p ≤ p + 1)
 next_is p = by_test (nat_lt p last_place)
   where
@@ -72,7 +72,7 @@ next_is p = by_test (nat_lt p last_place)
     by_test true = (omega arith, omega arith)
     by_test false = (omega arith, omega arith)
 
--- a token that can't stand where it stands
+-- a token that can't are where it is
 unexpected_within : (source : List ℕ) (ts : List Token) (e : Ending) (p us : List Token) (t : Token)
     → IsTokenList source ts e → ts ≡ p ++ (t ∷ us) → Within (span_of_token t) (width source)
 unexpected_within source ts e p us t l h = token_within (width source) p us t
@@ -82,10 +82,10 @@ unexpected_within source ts e p us t l h = token_within (width source) p us t
 carried_within : (source : List ℕ) (ts : List Token) (e : Ending) (y : Fault)
     → IsTokenList source ts e → e ≡ carried y → Within y.span (width source)
 carried_within source ts e y l q =
-    let b = subst (λ (z : Ending). IsFaultBehind ts z (width source)) q (fault_behind source ts e l) in
+    let b = subst (λ (z : Ending). IsFaultAfter ts z (width source)) q (fault_after source ts e l) in
     (omega (arith, b.1), omega (arith, b.2))
 
--- an end behind which a token is missing
+-- an end after which a token is missing
 missing_within : (source : List ℕ) (ts : List Token) (e : Ending) → IsTokenList source ts e
     → Within (unexpected_end (last_end 0 ts)).span (width source)
 missing_within source ts e l =
@@ -109,6 +109,6 @@ unchecked_within L n source ts e x l (unchecked_unexpected p us t h v r) = unexp
 unchecked_within L n source ts e x l (unchecked_carried y v q) = carried_within source ts e y l q
 unchecked_within L n source ts e x l (unchecked_missing v r q) = missing_within source ts e l
 
--- a want of memory
+-- a failed allocation
 pub memory_within : (size : ℕ) (e : Error) → IsOutOfMemory e → StandsWithin e.span size
 memory_within size e is = subst (λ (x : Error). StandsWithin x.span size) (sym is) (omega arith, omega arith)

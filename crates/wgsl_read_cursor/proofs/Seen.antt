@@ -1,4 +1,4 @@
--- What is answered, seen by view, is what the reader on lists answers.
+-- What is answered, seen by view, is what the reader on lists returns.
 use Rattle.std.proofs.Common.{◌≡◌, true, false, List, [], ◌∷◌, ◌++◌, inl, inr, refl, sym, ap, subst, ◌∙◌, Ok, Err, Result}
 use Rattle.std.specs.Prelude.{Bool, if◌then◌else◌}
 use Rattle.grammar.specs.Tokens.{Token, Fault, last_end, tokens_between}
@@ -27,17 +27,17 @@ use Rattle.wgsl_read_cursor.specs.declared.fault.Fault as declared
 use Rattle.wgsl_read_cursor.specs.declared.fault.Fault.TheVariants as fault
 use Rattle.wgsl_read_cursor.specs.Reading.{refusal_stop, Fails, Gives, state}
 use Rattle.wgsl_read_cursor.specs.Sources.{tokens_to_read}
-use Rattle.wgsl_read_cursor.specs.Answers.{IsToldOfRefusal, IsToldOf, IsToldBehind, IsAnsweredOf, Answered}
+use Rattle.wgsl_read_cursor.specs.Answers.{IsToldOfRefusal, IsToldOf, IsToldAfter, IsAnsweredOf, Answered}
 use Rattle.wgsl_read_cursor.specs.declared.source.TokenSource.{TokenSource}
 use Rattle.wgsl_read_cursor.specs.Origins.{AreOf, IsSourceOf, IsReadTo}
 use Rattle.wgsl_read_cursor.proofs.Origins.{all_taken}
 
--- ---- tokens that did not end because memory was refused
-behind_said : {Y : Type 0} (ts us : List Token) (ending : Ending) (a : Y) (e : Error)
-    → IsToldBehind us ending e → answer_said ts ending (ok a us) ≡ denied (fault_view e)
-behind_said ts [] finished a e told = absurd told
-behind_said ts [] (carried x) a e told = ap denied (sym told)
-behind_said ts (t ∷ us) ending a e told = ap denied (sym told.1)
+-- ---- tokens that did not end because an allocation failed
+after_said : {Y : Type 0} (ts us : List Token) (ending : Ending) (a : Y) (e : Error)
+    → IsToldAfter us ending e → answer_said ts ending (ok a us) ≡ denied (fault_view e)
+after_said ts [] finished a e told = absurd told
+after_said ts [] (carried x) a e told = ap denied (sym told)
+after_said ts (t ∷ us) ending a e told = ap denied (sym told.1)
 
 refusal_said : {Y : Type 0} (ts : List Token) (ending : Ending) (o : Outcome Y) (r : Refusal) (e : Error)
     → tag (start_state ts) o ≡ stop (refusal_stop r) → IsToldOfRefusal r ending e
@@ -87,12 +87,12 @@ said_seen view ts ending out (Ok v) left result gives told = absurd cc
 said_seen view ts ending (ok a us) (Ok v) left (Err e) gives (inl m) = inl m
 said_seen view ts ending (ok a us) (Ok v) left (Err e) gives (inr told) =
     let rest : left.rest ≡ us = cc in
-    inr (behind_said ts us ending a e (subst (λ us. IsToldBehind us ending e) rest told))
+    inr (after_said ts us ending a e (subst (λ us. IsToldAfter us ending e) rest told))
 said_seen view ts ending o (Err x) left (Ok w) gives told = absurd told
 said_seen view ts ending o (Err x) left (Err e) gives (inl m) = inl m
 said_seen view ts ending o (Err x) left (Err e) gives (inr told) = inr (stop_said ts ending o x e gives told)
 
--- ---- tokens that ended because memory was refused: as if a `(` followed
+-- ---- tokens that ended because an allocation failed: as if a `(` followed
 -- one token that is left is that `(`
 abbrev IsOpened : {Y : Type 0} → Outcome Y → Type 0
 IsOpened (ok a (t ∷ [])) = t ≡ opening
@@ -118,12 +118,12 @@ is_opened n ts (stuck (t ∷ (u ∷ us))) h = tt
 is_opened n ts (bad x us) h = tt
 is_opened n ts out h = tt
 
-behind_in_want : {Y : Type 0} (us : List Token) (x : Fault) (a : Y) (e : Error)
-    → wants_memory (carried x) ≡ true → IsOpened (ok a us) → IsToldBehind us (carried x) e
+after_in_want : {Y : Type 0} (us : List Token) (x : Fault) (a : Y) (e : Error)
+    → wants_memory (carried x) ≡ true → IsOpened (ok a us) → IsToldAfter us (carried x) e
     → answer_in_want x (ok a us) ≡ denied (fault_view e)
-behind_in_want [] x a e m opened told = ap denied (sym told)
-behind_in_want (t ∷ []) x a e m opened told = let no = told.0 opened in absurd cc
-behind_in_want (t ∷ (u ∷ us)) x a e m opened told = ap denied (sym told.1)
+after_in_want [] x a e m opened told = ap denied (sym told)
+after_in_want (t ∷ []) x a e m opened told = let no = told.0 opened in absurd cc
+after_in_want (t ∷ (u ∷ us)) x a e m opened told = ap denied (sym told.1)
 
 refusal_in_want : {Y : Type 0} (x : Fault) (s : State) (o : Outcome Y) (r : Refusal) (e : Error)
     → wants_memory (carried x) ≡ true → IsOpened o → tag s o ≡ stop (refusal_stop r)
@@ -170,13 +170,13 @@ want_seen view x s out (Ok v) left (Err e) m opened gives told = absurd cc
 want_seen view x s (ok a us) (Ok v) left (Err e) m opened gives (inl r) = inl r
 want_seen view x s (ok a us) (Ok v) left (Err e) m opened gives (inr told) =
     let rest : left.rest ≡ us = cc in
-    inr (behind_in_want us x a e m opened (subst (λ us. IsToldBehind us (carried x) e) rest told))
+    inr (after_in_want us x a e m opened (subst (λ us. IsToldAfter us (carried x) e) rest told))
 want_seen view x s o (Err y) left (Ok w) m opened gives told = absurd told
 want_seen view x s o (Err y) left (Err e) m opened gives (inl r) = inl r
 want_seen view x s o (Err y) left (Err e) m opened gives (inr told) = inr (stop_in_want x s o y e m opened gives told)
 
 -- ---- both
--- what is answered of what a parse function gave
+-- what is returned for what a parse function gave
 pub seen : (n : Symbol) {X : Type 0} (view : X → Value n) (ts : List Token) (ending : Ending)
     (read : Result X declared.Fault) (left : State) (result : Result X Error)
     → Gives view read left (reader (of n) (start_state (tokens_to_read ts ending)))
@@ -202,7 +202,7 @@ seen n view ts (carried x) read left result gives told = by_want (wants_memory (
         (outcomes tables body rank_limit apart tested (of n) (ts ++ (opening ∷ [])))) given told
     by_want false m given = said_seen view ts (carried x) (reads_of ts) read left result given told
 
--- what is answered of what a parse function gave of a source
+-- what is returned for what a parse function gave of a source
 pub source_seen : (n : Symbol) {X : Type 0} (view : X → Value n) (source : TokenSource) (read : Result X
     declared.Fault) (left : State) (result : Result X Error) (ts : List Token) (ending : Ending)
     → IsSourceOf source ts ending

@@ -1,4 +1,4 @@
--- What is answered of what a parse function returned, and of the tokens that it left.
+-- What is returned for what a parse function returned, and of the tokens that it left.
 use Rattle.std.specs.Prelude.{◌≡◌, ◌⊎◌, ℕ, false, List, [], ◌∷◌, Result, Ok, Err}
 use Rattle.grammar.specs.Tokens.{Token, Fault}
 use Rattle.grammar.specs.Endings.{Ending, Ending.finished, Ending.carried, Answer, Answer.accepted, Answer.denied}
@@ -16,7 +16,7 @@ use Rattle.wgsl_read_cursor.specs.declared.fault.Refusal.TheVariants as refusal
 use Rattle.wgsl_read_cursor.specs.declared.fault.Fault as declared
 use Rattle.wgsl_read_cursor.specs.declared.fault.Fault.TheVariants as fault
 
--- memory was refused, which stands nowhere in a text: at 0..0
+-- an allocation failed, which is nowhere in a text: at 0..0
 abbrev pub IsOutOfMemory : Error → Type 0
 IsOutOfMemory e = e ≡ error_at parse.OutOfMemory 0 0
 
@@ -25,7 +25,7 @@ abbrev pub end_fault : Ending → ℕ → Fault
 end_fault finished place = unexpected_end place
 end_fault (carried x) place = x
 
--- a token that was refused is named, unless it is the `(` that stands where memory was refused
+-- a token that was refused is named, unless it is the `(` that is where an allocation failed
 abbrev pub IsRefusalOf : Token → Ending → Error → Type 0
 IsRefusalOf t ending e = ((t ≡ opening) → wants_memory ending ≡ false) × (fault_view e ≡ unexpected_token t)
 
@@ -40,17 +40,17 @@ abbrev pub IsToldOf : declared.Fault → Ending → Error → Type 0
 IsToldOf (fault.Refused refusal) ending e = IsToldOfRefusal refusal.value ending e
 IsToldOf fault.OutOfMemory ending e = ⊥
 
--- what is told of a value behind which these tokens are left
-abbrev pub IsToldBehind : List Token → Ending → Error → Type 0
-IsToldBehind [] finished e = ⊥
-IsToldBehind [] (carried x) e = fault_view e ≡ x
-IsToldBehind (t ∷ ts) ending e = IsRefusalOf t ending e
+-- what is told of a value after which these tokens are left
+abbrev pub IsToldAfter : List Token → Ending → Error → Type 0
+IsToldAfter [] finished e = ⊥
+IsToldAfter [] (carried x) e = fault_view e ≡ x
+IsToldAfter (t ∷ ts) ending e = IsRefusalOf t ending e
 
--- what is answered of what was returned: the value, where no token is left behind it and the tokens
+-- what is returned for what was returned: the value, where no token is left after it and the tokens
 -- ended of themselves; else an error that is told of it, unless memory ran out
 abbrev pub IsAnsweredOf : {T : Type 0} → Result T declared.Fault → State → Ending → Result T Error → Type 0
 IsAnsweredOf (Ok v) left ending (Ok w) = (w ≡ v) × (left.rest ≡ []) × (ending ≡ finished)
-IsAnsweredOf (Ok v) left ending (Err e) = IsOutOfMemory e ⊎ IsToldBehind left.rest ending e
+IsAnsweredOf (Ok v) left ending (Err e) = IsOutOfMemory e ⊎ IsToldAfter left.rest ending e
 IsAnsweredOf (Err x) left ending (Ok w) = ⊥
 IsAnsweredOf (Err x) left ending (Err e) = IsOutOfMemory e ⊎ IsToldOf x ending e
 

@@ -5,6 +5,6 @@ use Rattle.grammar.specs.Endings.{Ending}
 use Rattle.wgsl_model.specs.Faults.Checked.{wants_memory}
 use Rattle.wgsl_theory_grammar.specs.Answers.{opening}
 
--- the tokens; where memory was refused for what follows them, as if a `(` followed
+-- the tokens; where an allocation failed for what follows them, as if a `(` followed
 abbrev pub tokens_to_read : List Token → Ending → List Token
 tokens_to_read ts ending = if wants_memory ending then ts ++ (opening ∷ []) else ts

@@ -1,4 +1,4 @@
-//! What is answered of what was read of all tokens.
+//! What is returned for what was read of all tokens.
 
 ghost use Rattle.std.specs.Prelude.{List};
 ghost use Rattle.grammar.specs.Tokens.{Token};
@@ -13,12 +13,13 @@ use std::alloc::Global;
 use wgsl_error::Error;
 
 impl TokenSource<'_> {
-    /// The value that was read, where no token is left behind it and no error ended the tokens; else what is wrong.
+    /// The value that was read, where no token is left after it and no error ended the tokens; else
+    /// what is wrong.
     pub fn answer<T: Drop>(
         self,
         alloc: Global,
         read: Result<T, Fault>,
-        behind: Expected,
+        following: Expected,
     ) -> Result<T, Error>
         ensures { (ts : List Token) (ending : Ending) → AreOf self.entry.origin ts ending →
             IsReadTo self.entry.origin read (state self.entry.tokens) ts →
@@ -30,7 +31,7 @@ impl TokenSource<'_> {
             Err(fault) => return Err(origin.name(alloc, fault)?),
         };
         if !tokens.is_empty() {
-            let fault = tokens.refuse(behind);
+            let fault = tokens.refuse(following);
             return Err(origin.name(alloc, fault)?);
         }
         let last = tokens.span_from(0);

@@ -25,7 +25,7 @@ pub struct Cursor<'s> {
     /// For what is refused.
     alloc: Global,
     tokens: Tokens<'s>,
-    /// Which of them stands next, if one does.
+    /// Which of them is next, if one does.
     next: Option<TokenKind>,
     end: usize,
     /// How many levels deeper what is read may nest.
@@ -53,7 +53,7 @@ impl<'s> Cursor<'s> {
         Cursor::before(alloc, Tokens::Given(tokens), usize::MAX)
     }
 
-    /// The tokens of a text, which may nest so many levels deep.
+    /// The tokens of a text, which may nest a number of levels deep.
     pub fn of_text(alloc: Global, tokens: TextTokens<'s>, depth: usize) -> Cursor<'s>
         ensures { state result ≡ record { end = 0; rest = tokens_left tokens.entry } }
     {
@@ -104,7 +104,7 @@ impl<'s> Cursor<'s> {
         self.next.is_none()
     }
 
-    /// Which token stands next, if one does.
+    /// Which token is next, if one does.
     #[inline]
     pub fn kind(&self) -> Option<TokenKind>
         ensures { MatchOption result ((state self.now).rest ≡ [])
@@ -171,7 +171,7 @@ impl<'s> Cursor<'s> {
         }
     }
 
-    /// Goes behind the next token, if there is one.
+    /// Goes after the next token, if there is one.
     #[inline(never)]
     fn skip(&mut self)
         ensures { state self.new ≡ after (state self.old) }
@@ -203,7 +203,8 @@ impl<'s> Cursor<'s> {
         Err(self.refuse(Expected::One(kind)))
     }
 
-    /// Takes the next token, which can't stand here, as the fault; or the fault is that there is none.
+    /// Takes the next token, which can't are here, as the fault; or the fault is that there is
+    /// none.
     pub fn refuse(&mut self, expected: Expected) -> Fault
         ensures { Fails result (refused {A = Token} (state self.old)) }
     {
@@ -214,7 +215,7 @@ impl<'s> Cursor<'s> {
         }
     }
 
-    /// Takes the next token. `expected` is what could stand in its place.
+    /// Takes the next token. `expected` is what could be in its place.
     pub fn next(&mut self, expected: Expected) -> Result<PlacedToken, Fault>
         ensures { Parses placed_view result self.old self.new token_at }
     {

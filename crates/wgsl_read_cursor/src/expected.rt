@@ -1,9 +1,9 @@
-//! What could stand where a token was refused.
+//! What could be where a token was refused.
 
 use std::alloc::{AllocError, Global};
 use wgsl_lex_token::kind::TokenKind;
 
-/// The tokens that could stand where one was refused, by their kinds in order.
+/// The tokens that could be where one was refused, by their kinds in order.
 #[derive(Clone, Copy)]
 pub enum Expected {
     One(TokenKind),

@@ -9,7 +9,7 @@ use std::alloc::{AllocError, AllocFailed, Global};
 use wgsl_error::Error;
 use wgsl_lex_token::placed::PlacedToken;
 
-/// What was refused, and what could stand in the place of a token that was.
+/// What was refused, and what could be in the place of a token that was.
 #[derive(Drop)]
 pub enum Refusal {
     UnexpectedToken(PlacedToken, Expected),
@@ -32,7 +32,7 @@ impl Fault {
     ghost use Rattle.wgsl_lex_token.specs.Placed.{placed_view};
     ghost use Rattle.wgsl_read_cursor.specs.Reading.{refusal_stop, Tells};
 
-    /// The fault of a token that can't stand where it does.
+    /// The fault of a token that can't are where it does.
     #[inline(never)]
     pub fn unexpected_token(alloc: Global, token: PlacedToken, expected: Expected) -> Fault
         ensures { Tells result (unexpected (placed_view token)) }

@@ -11,7 +11,7 @@ use wgsl_error::{Error, ErrorKind};
 use wgsl_lex_token::placed::PlacedToken;
 use wgsl_span::Span;
 
-/// The error of a token that can't stand where it stands.
+/// The error of a token that can't are where it is.
 pub(crate) fn unexpected_token(
     alloc: Global,
     token: PlacedToken,
@@ -29,7 +29,7 @@ pub(crate) fn unexpected_token(
     })
 }
 
-/// The error of an end behind which a token is missing.
+/// The error of an end after which a token is missing.
 pub(crate) fn unexpected_end(
     alloc: Global,
     place: usize,

@@ -10,7 +10,7 @@ use crate::{Expected, Fault, Refusal};
 use std::alloc::{AllocError, Global};
 use wgsl_error::{Error, ParseError};
 use wgsl_lex_token::placed::PlacedToken;
-use wgsl_lexer::invalid_behind;
+use wgsl_lexer::invalid_after;
 use wgsl_span::Span;
 
 /// Where tokens are from.
@@ -32,7 +32,7 @@ impl Origin<'_> {
     ghost use Rattle.wgsl_read_cursor.specs.Answers.{IsToldOf, IsToldOfRefusal, end_fault};
     ghost use Rattle.wgsl_read_cursor.specs.Origins.{AreOf, IsLastOf, IsFaultOf, IsRefusedOf};
 
-    /// Whether memory was refused for a token.
+    /// Whether an allocation failed for a token.
     fn is_out_of_memory(&self) -> bool
         ensures { (ts : List Token) (ending : Ending) →
             AreOf self.now ts ending → result ≡ wants_memory ending }
@@ -43,7 +43,7 @@ impl Origin<'_> {
         }
     }
 
-    /// Whether a token is the `(` that stands behind tokens for which memory was refused.
+    /// Whether a token is the `(` that is after tokens for which an allocation failed.
     fn is_opening(&self, token: &PlacedToken) -> bool
         ensures { (ts : List Token) (ending : Ending) → AreOf self.now ts ending →
             result ≡ false → placed_view token.now ≡ opening → wants_memory ending ≡ false }
@@ -60,7 +60,7 @@ impl Origin<'_> {
             IsLastOf self.entry place ts → ending ≡ ending_view result }
     {
         match self {
-            Origin::Text(source) => invalid_token(invalid_behind(source, place)),
+            Origin::Text(source) => invalid_token(invalid_after(source, place)),
             Origin::Given(error) => error,
         }
     }

@@ -20,7 +20,7 @@ pub(crate) enum Tokens<'s> {
 }
 
 impl<'s> Tokens<'s> {
-    /// Which token stands next, if one does.
+    /// Which token is next, if one does.
     #[inline(always)]
     pub(crate) fn kind(&self) -> Option<TokenKind>
         ensures { MatchOption result (rest_of self.now ≡ []) (StartWithKind (rest_of self.now)) }
@@ -31,7 +31,7 @@ impl<'s> Tokens<'s> {
         }
     }
 
-    /// Where the next token stands, if there is one.
+    /// Where the next token is, if there is one.
     #[inline(always)]
     pub(crate) fn span(&self) -> Option<Span>
         ensures { MatchOption result (rest_of self.now ≡ []) (BeginAt (rest_of self.now)) }
@@ -42,7 +42,7 @@ impl<'s> Tokens<'s> {
         }
     }
 
-    /// The name that stands next in a text, if one does. One that was given is moved: see `take`.
+    /// The name that is next in a text, if one does. One that was given is moved: see `take`.
     #[inline(always)]
     pub(crate) fn name(&self) -> Option<&'s str>
         ensures { IfSome result (λ name. BeginWithName (rest_of self.now) name.now) }
@@ -53,7 +53,7 @@ impl<'s> Tokens<'s> {
         }
     }
 
-    /// Goes behind the next token, if there is one.
+    /// Goes after the next token, if there is one.
     pub(crate) fn skip(&mut self)
         ensures { rest_of self.new ≡ drop 1 (rest_of self.old) }
     {

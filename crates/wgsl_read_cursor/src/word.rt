@@ -1,4 +1,4 @@
-//! Words: what stands directly behind `@`.
+//! Words: what is directly after `@`.
 
 ghost use Rattle.std.specs.Prelude.{◌≡◌, IfOk, string_bytes};
 ghost use Rattle.wgsl_read_cursor.specs.Words.{word_text};

@@ -9,12 +9,12 @@ use Rattle.wgsl_theory_grammar.specs.Factored.{FactoredSymbol.of, FactoredSymbol
 use Rattle.wgsl_theory_grammar.specs.Reader.{reader}
 use Rattle.wgsl_theory_grammar.specs.UnitRules.{global_directive_at}
 use Rattle.wgsl_theory_grammar.proofs.UnitEquations.{global_directive_is}
-use Rattle.wgsl_read_attribute.specs.Behind.{behind_attributes}
+use Rattle.wgsl_read_attribute.specs.After.{after_attributes}
 
--- attributes, and what stands behind them
+-- attributes, and what is after them
 unfoldable pub global_directive_parts : State → Read GlobalDirective
 global_directive_parts s = reader (further attribute_list) s
-    >>= λ a s'. behind_attributes with_attributes a (reader (further directive_part)) s'
+    >>= λ a s'. after_attributes with_attributes a (reader (further directive_part)) s'
 
 pub global_directive_by_parts : (s : State) → reader (of global_directive) s ≡ global_directive_parts s
 unfolding global_directive_at global_directive_parts

@@ -14,7 +14,7 @@ use Rattle.wgsl_theory_grammar.specs.Reader.{reader}
 use Rattle.wgsl_theory_grammar.proofs.Reader.{step}
 use Rattle.wgsl_read_declaration.specs.Parts.{names_at}
 use Rattle.wgsl_read_declaration.specs.Names.{dotted}
-use Rattle.wgsl_read_declaration.proofs.ClosedLists.{closing, item_before, past_token, put_behind, from_first, further_items}
+use Rattle.wgsl_read_declaration.proofs.ClosedLists.{closing, item_before, past_token, put_after, from_first, further_items}
 
 -- the name of a rule, by the texts of its parts
 pub rule_of_is : (first : Token) (second : Option Token)
@@ -55,10 +55,10 @@ one_text : (t : Token) (m : Read (List Token))
 one_text t (done l s) = refl
 one_text t (stop e) = refl
 
-item_texts : (behind : State → Read (List Token)) (m : Read Token)
-    → as_texts (item_before behind m) ≡ item_before (λ s. as_texts (behind s)) (as_text m)
-item_texts behind (done t s) = one_text t (behind s)
-item_texts behind (stop e) = refl
+item_texts : (following : State → Read (List Token)) (m : Read Token)
+    → as_texts (item_before following m) ≡ item_before (λ s. as_texts (following s)) (as_text m)
+item_texts following (done t s) = one_text t (following s)
+item_texts following (stop e) = refl
 
 token_texts : (t : Token) (m : Read (List Token))
     → as_texts ((m >>= λ l s. done (t, l) s) >>= λ (p : Token × List Token) s. done p.1 s)
@@ -66,10 +66,10 @@ token_texts : (t : Token) (m : Read (List Token))
 token_texts t (done l s) = refl
 token_texts t (stop e) = refl
 
-past_texts : (behind : State → Read (List Token)) (m : Read Token)
-    → as_texts (past_token behind m) ≡ past_token (λ s. as_texts (behind s)) m
-past_texts behind (done t s) = token_texts t (behind s)
-past_texts behind (stop e) = refl
+past_texts : (following : State → Read (List Token)) (m : Read Token)
+    → as_texts (past_token following m) ≡ past_token (λ s. as_texts (following s)) m
+past_texts following (done t s) = token_texts t (following s)
+past_texts following (stop e) = refl
 
 rest_is : (s : State) → rest s ≡ cond (is_at SymSemicolon s) (closing (take SymSemicolon s)) (item_before more (name s))
 rest_is s =
@@ -85,18 +85,18 @@ more_is s =
     (closing_texts (take SymSemicolon s))
 
 -- ---- the list, name by name
--- the names behind some
+-- the names after some
 unfoldable pub names_from : List (List ℕ) → State → Read (List (List ℕ))
-names_from names s = put_behind names (more s)
+names_from names s = put_after names (more s)
 
--- one more behind a comma, where the list is not closed
+-- one more after a comma, where the list is not closed
 unfoldable pub names_turn : List (List ℕ) → State → Read (List (List ℕ))
 names_turn names s = cond (is_at SymComma s)
     (take SymComma s >>= λ t s'. cond (is_at SymSemicolon s') (take SymSemicolon s'
     >>= λ u s''. done names s'') (name s' >>= λ n s''. names_from (names ++ (n ∷ [])) s''))
     (take SymSemicolon s >>= λ t s'. done names s')
 
--- a first name and those behind it
+-- a first name and those after it
 unfoldable pub first_names : State → Read (List (List ℕ))
 first_names s = name s >>= λ n s'. names_from (n ∷ []) s'
 

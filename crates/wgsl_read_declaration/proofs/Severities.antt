@@ -2,7 +2,7 @@
 use Rattle.std.proofs.Common.{◌≡◌, ℕ, true, false, cond, eqb, List, [], ◌∷◌, inl, inr, refl, sym, ap, ap₂, subst, ◌∙◌}
 use Rattle.std.specs.Prelude.{Option, Some, None}
 use Rattle.grammar.specs.Tokens.{Token, Span, Fault}
-use Rattle.grammar.specs.States.{State, Read, Read.done, Read.stop, Stop.faulty, ◌>>=◌, is_first, is_at, is_any, head_of, behind, first_start, first_of, after, next_start, span_from, take, refused_at, refused, judged}
+use Rattle.grammar.specs.States.{State, Read, Read.done, Read.stop, Stop.faulty, ◌>>=◌, is_first, is_at, is_any, head_of, following, first_start, first_of, after, next_start, span_from, take, refused_at, refused, judged}
 use Rattle.grammar.proofs.Reading.Sets.{cases}
 use Rattle.grammar.proofs.Reading.Beginnings.{cond_yes, cond_no}
 use Rattle.wgsl_model.specs.Tokens.ClassTable.{SymParenLeft, KwDiagnostic, Ident, ReservedWord}
@@ -36,7 +36,7 @@ refused_not_done : {A : Type 0} (end : ℕ) (ts : List Token) (f : Token → Sta
 refused_not_done end [] f a s e = absurd cc
 refused_not_done end (t ∷ ts) f a s e = absurd cc
 
--- the state behind a token that was taken
+-- the state after a token that was taken
 taken : (class : ℕ) (s : State) (t : Token) (s' : State) → take class s ≡ done t s' → s' ≡ after s
 unfolding take
 taken class s t s' e = elim (cases (is_at class s)) [
@@ -52,11 +52,11 @@ head_start [] = refl
 head_start (t ∷ ts) = refl
 
 head_end : (place : ℕ) (ts : List Token) → cond (is_first Ident ts) true (is_first ReservedWord ts) ≡ true
-    → (head_of ts).end ≡ (behind place ts).end
+    → (head_of ts).end ≡ (following place ts).end
 head_end place [] e = absurd cc
 head_end place (t ∷ ts) e = refl
 
--- where a name stands
+-- where a name is
 first_span : (s : State) → is_any (Ident ∷ ReservedWord ∷ []) s ≡ true
     → span_of_token (first_of s) ≡ span_from (next_start s) (after s)
 unfolding is_at next_start first_of after
@@ -74,7 +74,7 @@ unreserved_class t span e = elim (cases (eqb t.class ReservedWord)) [
   | inr n ↦ n
 ]
 
--- a name is no reserved word, and stands from where the next token starts to where the last one
+-- a name is no reserved word, and is from where the next token starts to where the last one
 -- that was taken ends
 ident_read : (s : State) (t : Token) (s' : State) → reader (of ident) s ≡ done t s'
     → (eqb t.class ReservedWord ≡ false) × (span_of_token t ≡ span_from (next_start s) s')
@@ -155,7 +155,7 @@ severity_is s s' s'' t u severity e f h =
     sym (ap (λ (o : Option DiagnosticSeverity). given_or error o) (known severity (text_of (first_of s'')) h))
     ∙ ap severity_of (third_is s s' s'' t u e f)
 
--- any other name is a fault where it stands
+-- any other name is a fault where it is
 pub severity_refused : (s s' s'' : State) (t u : Token) (left : State) → take KwDiagnostic s ≡ done t s'
     → take SymParenLeft s' ≡ done u s'' → reader (of ident) s'' ≡ done (first_of s'') left
     → ((severity : DiagnosticSeverity) → ¬ (text_of (first_of s'') ≡ severity_text severity))

@@ -8,20 +8,20 @@ use Rattle.wgsl_model.specs.Grammar.Symbols.{Symbol.struct_member}
 use Rattle.wgsl_theory_grammar.specs.Factored.{FactoredSymbol.of, FactoredSymbol.further, Further.member_items, Further.member_rest, Further.member_more}
 use Rattle.wgsl_theory_grammar.specs.Reader.{reader}
 use Rattle.wgsl_theory_grammar.proofs.Reader.{step}
-use Rattle.wgsl_read_declaration.proofs.ClosedLists.{put_behind, from_first, further_items}
+use Rattle.wgsl_read_declaration.proofs.ClosedLists.{put_after, from_first, further_items}
 
--- the members behind some
+-- the members after some
 unfoldable pub members_from : List (Spanned StructMember) → State → Read (List (Spanned StructMember))
-members_from ms s = put_behind ms (reader (further member_more) s)
+members_from ms s = put_after ms (reader (further member_more) s)
 
--- one more behind a comma, where the list is not closed
+-- one more after a comma, where the list is not closed
 unfoldable pub members_turn : List (Spanned StructMember) → State → Read (List (Spanned StructMember))
 members_turn ms s = cond (is_at SymComma s)
     (take SymComma s >>= λ t s'. cond (is_at SymBraceRight s') (take SymBraceRight s' >>= λ u s''.
     done ms s'') (reader (of struct_member) s' >>= λ m s''. members_from (ms ++ (m ∷ [])) s''))
     (take SymBraceRight s >>= λ t s'. done ms s')
 
--- a first member and those behind it
+-- a first member and those after it
 unfoldable pub members_at : State → Read (List (Spanned StructMember))
 members_at s = reader (of struct_member) s >>= λ m s'. members_from (m ∷ []) s'
 

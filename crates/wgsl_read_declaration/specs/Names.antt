@@ -8,7 +8,7 @@ use Rattle.wgsl_model.specs.Tokens.ClassTable.{SymPeriod}
 abbrev pub third_of : State → Token
 third_of s = first_of (after (after s))
 
--- the token behind a `.`, where the next token is one
+-- the token after a `.`, where the next token is one
 abbrev pub second_name_of : State → Option Token
 second_name_of s = cond (is_at SymPeriod s) (Some (first_of (after s))) None
 

@@ -12,7 +12,7 @@ ghost use Rattle.wgsl_tree_unit.specs.View.{global_directive_view};
 ghost use Rattle.wgsl_theory_grammar.specs.Factored.{FactoredSymbol.of, FactoredSymbol.further, Further.directive_part, Further.enable_part, Further.requires_part, Further.diagnostic_part};
 ghost use Rattle.wgsl_theory_grammar.specs.Reader.{reader};
 ghost use Rattle.wgsl_read_cursor.specs.Reading.{state, Gives, Parses};
-ghost use Rattle.wgsl_read_attribute.specs.Behind.{behind_attributes};
+ghost use Rattle.wgsl_read_attribute.specs.After.{after_attributes};
 ghost use Rattle.wgsl_read_declaration.specs.Parts.{names_at, second_name_at};
 ghost use Rattle.wgsl_read_declaration.specs.Names.{third_of, second_name_of, dotted};
 
@@ -25,7 +25,7 @@ use wgsl_tree_attribute::Attributes;
 use wgsl_tree_unit::{DiagnosticDirective, EnableDirective, GlobalDirective, RequiresDirective};
 use wgsl_tree_words::DiagnosticSeverity;
 
-/// What begins a directive, or can stand behind its attributes.
+/// What begins a directive, or can be after its attributes.
 const DIRECTIVE: Expected = Expected::OneOf(&[
     TokenKind::SymAttr,
     TokenKind::KwDiagnostic,
@@ -34,7 +34,7 @@ const DIRECTIVE: Expected = Expected::OneOf(&[
 ]);
 
 /// A directive with its attributes and its `;` (WGSL, "Directives"). A name in the place of a
-/// severity that is none is a checked fault where that name stands.
+/// severity that is none is a checked fault where that name is.
 pub fn parse_global_directive(alloc: Global, tokens: &mut Cursor) -> Result<GlobalDirective, Fault>
     ensures { Parses global_directive_view result tokens.old tokens.new
         (reader (of global_directive)) }
@@ -43,14 +43,14 @@ pub fn parse_global_directive(alloc: Global, tokens: &mut Cursor) -> Result<Glob
     parse_directive_part(alloc, tokens, attributes)
 }
 
-/// A directive behind its attributes.
+/// A directive after its attributes.
 pub fn parse_directive_part(
     alloc: Global,
     tokens: &mut Cursor,
     attributes: Attributes,
 ) -> Result<GlobalDirective, Fault>
     ensures { Parses global_directive_view result tokens.old tokens.new
-        (behind_attributes with_attributes
+        (after_attributes with_attributes
         (attributes_view attributes.items) (reader (further directive_part))) }
 {
     if tokens.is_at(TokenKind::KwEnable) {
@@ -65,14 +65,14 @@ pub fn parse_directive_part(
     Err(tokens.refuse(DIRECTIVE))
 }
 
-/// An `enable` behind its attributes.
+/// An `enable` after its attributes.
 fn parse_enable_part(
     alloc: Global,
     tokens: &mut Cursor,
     attributes: Attributes,
 ) -> Result<GlobalDirective, Fault>
     ensures { Parses global_directive_view result tokens.old tokens.new
-        (behind_attributes with_attributes
+        (after_attributes with_attributes
         (attributes_view attributes.items) (reader (further enable_part))) }
 {
     tokens.expect(TokenKind::KwEnable)?;
@@ -83,14 +83,14 @@ fn parse_enable_part(
     }))
 }
 
-/// A `requires` behind its attributes.
+/// A `requires` after its attributes.
 fn parse_requires_part(
     alloc: Global,
     tokens: &mut Cursor,
     attributes: Attributes,
 ) -> Result<GlobalDirective, Fault>
     ensures { Parses global_directive_view result tokens.old tokens.new
-        (behind_attributes with_attributes
+        (after_attributes with_attributes
         (attributes_view attributes.items) (reader (further requires_part))) }
 {
     tokens.expect(TokenKind::KwRequires)?;
@@ -101,7 +101,7 @@ fn parse_requires_part(
     }))
 }
 
-/// Names, one at least, with a comma after each, or after each but the last, and the `;` behind
+/// Names, one at least, with a comma after each, or after each but the last, and the `;` after
 /// them.
 fn parse_names(alloc: Global, tokens: &mut Cursor) -> Result<Vec<String>, Fault>
     ensures { Parses (λ v. map string_bytes v.items) result tokens.old tokens.new names_at }
@@ -118,7 +118,7 @@ fn parse_names(alloc: Global, tokens: &mut Cursor) -> Result<Vec<String>, Fault>
     Ok(names)
 }
 
-/// A `diagnostic` behind its attributes, with its severity and the name of its rule (WGSL,
+/// A `diagnostic` after its attributes, with its severity and the name of its rule (WGSL,
 /// "Diagnostics").
 fn parse_diagnostic_part(
     alloc: Global,
@@ -126,7 +126,7 @@ fn parse_diagnostic_part(
     attributes: Attributes,
 ) -> Result<GlobalDirective, Fault>
     ensures { Parses global_directive_view result tokens.old tokens.new
-        (behind_attributes with_attributes
+        (after_attributes with_attributes
         (attributes_view attributes.items) (reader (further diagnostic_part))) }
 {
     let severity = parse_severity(alloc, tokens)?;

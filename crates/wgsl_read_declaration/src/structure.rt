@@ -10,7 +10,7 @@ ghost use Rattle.wgsl_tree_unit.specs.View.{global_declaration_view, member_view
 ghost use Rattle.wgsl_theory_grammar.specs.Factored.{FactoredSymbol.of, FactoredSymbol.further, Further.struct_part, Further.member_items};
 ghost use Rattle.wgsl_theory_grammar.specs.Reader.{reader};
 ghost use Rattle.wgsl_read_cursor.specs.Reading.{Parses};
-ghost use Rattle.wgsl_read_attribute.specs.Behind.{behind_attributes};
+ghost use Rattle.wgsl_read_attribute.specs.After.{after_attributes};
 
 use std::alloc::Global;
 use wgsl_lex_token::kind::TokenKind;
@@ -21,14 +21,14 @@ use wgsl_span::Spanned;
 use wgsl_tree_attribute::Attributes;
 use wgsl_tree_unit::{GlobalDeclaration, Struct, StructMember, StructMemberNode};
 
-/// A `struct` behind its attributes.
+/// A `struct` after its attributes.
 pub fn parse_struct_part(
     alloc: Global,
     tokens: &mut Cursor,
     attributes: Attributes,
 ) -> Result<GlobalDeclaration, Fault>
     ensures { Parses global_declaration_view result tokens.old tokens.new
-        (behind_attributes with_attributes
+        (after_attributes with_attributes
         (attributes_view attributes.items) (reader (further struct_part))) }
 {
     tokens.expect(TokenKind::KwStruct)?;
@@ -42,7 +42,7 @@ pub fn parse_struct_part(
     }))
 }
 
-/// Members, one at least, with a comma after each, or after each but the last, and the `}` behind
+/// Members, one at least, with a comma after each, or after each but the last, and the `}` after
 /// them.
 fn parse_members(alloc: Global, tokens: &mut Cursor) -> Result<Vec<StructMemberNode>, Fault>
     ensures { Parses (λ v. map (spanned_view member_view) v.items) result tokens.old tokens.new

@@ -7,7 +7,7 @@ ghost use Rattle.wgsl_tree_unit.specs.View.{global_declaration_view};
 ghost use Rattle.wgsl_theory_grammar.specs.Factored.{FactoredSymbol.further, Further.var_part, Further.override_part, Further.const_part, Further.alias_part};
 ghost use Rattle.wgsl_theory_grammar.specs.Reader.{reader};
 ghost use Rattle.wgsl_read_cursor.specs.Reading.{Parses};
-ghost use Rattle.wgsl_read_attribute.specs.Behind.{behind_attributes};
+ghost use Rattle.wgsl_read_attribute.specs.After.{after_attributes};
 
 use std::alloc::Global;
 use wgsl_lex_token::kind::TokenKind;
@@ -18,14 +18,14 @@ use wgsl_tree_attribute::Attributes;
 use wgsl_tree_simple::{Declaration, DeclarationKind};
 use wgsl_tree_unit::{GlobalDeclaration, TypeAlias};
 
-/// A `var` behind its attributes.
+/// A `var` after its attributes.
 pub fn parse_var_part(
     alloc: Global,
     tokens: &mut Cursor,
     attributes: Attributes,
 ) -> Result<GlobalDeclaration, Fault>
     ensures { Parses global_declaration_view result tokens.old tokens.new
-        (behind_attributes with_attributes
+        (after_attributes with_attributes
         (attributes_view attributes.items) (reader (further var_part))) }
 {
     let kind = parse_var_kind(alloc, tokens)?;
@@ -41,14 +41,14 @@ pub fn parse_var_part(
     }))
 }
 
-/// An `override` behind its attributes.
+/// An `override` after its attributes.
 pub fn parse_override_part(
     alloc: Global,
     tokens: &mut Cursor,
     attributes: Attributes,
 ) -> Result<GlobalDeclaration, Fault>
     ensures { Parses global_declaration_view result tokens.old tokens.new
-        (behind_attributes with_attributes
+        (after_attributes with_attributes
         (attributes_view attributes.items) (reader (further override_part))) }
 {
     tokens.expect(TokenKind::KwOverride)?;
@@ -64,14 +64,14 @@ pub fn parse_override_part(
     }))
 }
 
-/// A `const` behind its attributes.
+/// A `const` after its attributes.
 pub fn parse_const_part(
     alloc: Global,
     tokens: &mut Cursor,
     attributes: Attributes,
 ) -> Result<GlobalDeclaration, Fault>
     ensures { Parses global_declaration_view result tokens.old tokens.new
-        (behind_attributes with_attributes
+        (after_attributes with_attributes
         (attributes_view attributes.items) (reader (further const_part))) }
 {
     tokens.expect(TokenKind::KwConst)?;
@@ -88,14 +88,14 @@ pub fn parse_const_part(
     }))
 }
 
-/// An `alias` behind its attributes.
+/// An `alias` after its attributes.
 pub fn parse_alias_part(
     alloc: Global,
     tokens: &mut Cursor,
     attributes: Attributes,
 ) -> Result<GlobalDeclaration, Fault>
     ensures { Parses global_declaration_view result tokens.old tokens.new
-        (behind_attributes with_attributes
+        (after_attributes with_attributes
         (attributes_view attributes.items) (reader (further alias_part))) }
 {
     tokens.expect(TokenKind::KwAlias)?;

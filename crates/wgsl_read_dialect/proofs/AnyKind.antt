@@ -42,7 +42,7 @@ taken c [] s e = ap (λ (x : Bool). cond x (done (first_of s) (after s)) (refuse
 taken c (d ∷ cs) s e =
     ap (λ (x : Bool). cond (cond x true (is_any (d ∷ cs) s)) (done (first_of s) (after s)) (refused s)) e
 
--- the kind at a place, and those behind it
+-- the kind at a place, and those after it
 at_place : (kinds : List TokenKind) (i : ℕ) (d : TokenKind) → i < length kinds
     → classes (drop i kinds) ≡ class_of_kind (get_or kinds i d) ∷ classes (drop (i + 1) kinds)
 at_place kinds i d h = ap classes (drop-cons kinds i d h)

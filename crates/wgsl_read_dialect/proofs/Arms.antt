@@ -1,4 +1,4 @@
--- What is left behind each kind of step.
+-- What is left after each kind of step.
 use Rattle.std.proofs.Common.{◌≡◌, ◌==◌, ℕ, suc, ◌*◌, ◌<◌, ◌≤◌, Bool, true, false, cond, not, ◌&&◌, nat_le, List, [], ◌∷◌, length, refl, sym, ap, subst, ◌∙◌, arith, mul-le-mul_left}
 use Rattle.std.proofs.lemmas.Bool.Decides.{nat_tests}
 use Rattle.std.specs.Borrow.{Bor}
@@ -17,7 +17,7 @@ use Rattle.wgsl_read_dialect.specs.Weights.{can_be_empty, weight, token_weight, 
 use Rattle.wgsl_read_dialect.specs.Work.{work, IsWorkLeft}
 use Rattle.wgsl_read_dialect.specs.Symbols.{symbol_view}
 use Rattle.wgsl_read_dialect.specs.View.{step_view, steps_view}
-use Rattle.wgsl_read_dialect.proofs.Following.{behind_done}
+use Rattle.wgsl_read_dialect.proofs.Following.{after_done}
 use Rattle.wgsl_read_dialect.proofs.Weights.{least, follow_takes, repeated_is}
 use Rattle.wgsl_read_dialect.proofs.Views.{choice_is, repeat_is}
 use Rattle.wgsl_read_dialect.proofs.Machine.{IsInside, in_token, in_rule, in_choice, in_items, goes_on, goes_in, lighter_rule, lighter_choice, less_work, stopped, fails_in}
@@ -39,7 +39,7 @@ as_seen : {L : Dialect} (whole : Read (Unit {0})) (n : ℕ) (w w' : Steps) (s : 
     → IsWorkLeft L whole n w s → IsWorkLeft L whole n w' s
 as_seen {L} whole n w w' s e l = subst (λ (x : Steps). IsWorkLeft L whole n x s) e l
 
--- ---- an inner part, and the steps behind it
+-- ---- an inner part, and the steps after it
 pub inside_token : {L : Dialect} (all rest : List Step) (step : Step) (kinds : Bor (List TokenKind))
     (s : State) (whole : Read (Unit {0})) (n : ℕ)
     → all ≡ step ∷ rest → step ≡ Token kinds → IsWorkLeft L whole n (steps_view all) s
@@ -107,7 +107,7 @@ pub on_token : {L : Dialect} (all rest : List Step) (step : Step) (kinds : Bor (
 on_token {L} all rest step kinds s s' u whole n e f l h =
     goes_on (a_token (classes kinds.now) no_step) (steps_view rest) (steps_view all) s u s' whole n
     (inside_token all rest step kinds s whole n e f l) l
-    (behind_done (forgotten (take_any (classes kinds.now) s)) ∙ h)
+    (after_done (forgotten (take_any (classes kinds.now) s)) ∙ h)
 
 pub fails_token : {L : Dialect} (all rest : List Step) (step : Step) (kinds : Bor (List TokenKind))
     (s : State) (x : Fault) (whole : Read (Unit {0})) (n : ℕ)
@@ -116,7 +116,7 @@ pub fails_token : {L : Dialect} (all rest : List Step) (step : Step) (kinds : Bo
 fails_token {L} all rest step kinds s x whole n e f l h =
     fails_in (a_token (classes kinds.now) no_step) (steps_view rest) (steps_view all) s whole n x
     (inside_token all rest step kinds s whole n e f l) l
-    (subst (Fails x) (sym (behind_done (forgotten (take_any (classes kinds.now) s)))) h)
+    (subst (Fails x) (sym (after_done (forgotten (take_any (classes kinds.now) s)))) h)
 
 pub on_items : {L : Dialect} (all rest : List Step) (step : Step) (kinds : Bor (List TokenKind))
     (each : Bor (List Step)) (s s' : State) (u : Unit {0}) (whole : Read (Unit {0})) (n : ℕ)
@@ -126,7 +126,7 @@ pub on_items : {L : Dialect} (all rest : List Step) (step : Step) (kinds : Bor (
 on_items {L} all rest step kinds each s s' u whole n e f l h =
     goes_on (items (classes kinds.now) (steps_view each.now) no_step) (steps_view rest)
     (steps_view all) s u s' whole n (inside_items all rest step kinds each s whole n e f l) l
-    (behind_done (repeated (classes kinds.now) (follow L (steps_view each.now)) s) ∙ h)
+    (after_done (repeated (classes kinds.now) (follow L (steps_view each.now)) s) ∙ h)
 
 pub fails_items : {L : Dialect} (all rest : List Step) (step : Step) (kinds : Bor (List TokenKind))
     (each : Bor (List Step)) (s : State) (x : Fault) (whole : Read (Unit {0})) (n : ℕ)
@@ -135,7 +135,7 @@ pub fails_items : {L : Dialect} (all rest : List Step) (step : Step) (kinds : Bo
 fails_items {L} all rest step kinds each s x whole n e f l h =
     fails_in (items (classes kinds.now) (steps_view each.now) no_step) (steps_view rest)
     (steps_view all) s whole n x (inside_items all rest step kinds each s whole n e f l) l
-    (subst (Fails x) (sym (behind_done (repeated (classes kinds.now) (follow L (steps_view each.now)) s))) h)
+    (subst (Fails x) (sym (after_done (repeated (classes kinds.now) (follow L (steps_view each.now)) s))) h)
 
 -- what following items asks
 pub asks_items : {L : Dialect} (all rest : List Step) (step : Step) (kinds : Bor (List TokenKind))
@@ -154,7 +154,7 @@ asks_items {L} all rest step kinds each s whole n e f l =
     let both = and_true (not (can_be_empty h)) (is_settled h) q.0 in
     ((let most = l'.lighter in omega (arith, most)), not_true _ both.0, both.1)
 
--- an inner part that is called, and one that stands last
+-- an inner part that is called, and one that is last
 pub on_inner : {L : Dialect} (all rest inner : List Step) (s s' : State) (u : Unit {0})
     (whole : Read (Unit {0})) (n : ℕ)
     → IsInside L (steps_view inner) (steps_view rest) (steps_view all) s

@@ -1,4 +1,4 @@
--- Following steps one by one: an inner part, then the steps behind it.
+-- Following steps one by one: an inner part, then the steps after it.
 use Rattle.std.proofs.Common.{◌≡◌, ℕ, suc, ◌+◌, ◌*◌, ◌<◌, ◌≤◌, Bool, true, false, cond, not, ◌&&◌, ◌||◌, nat_le, List, length, refl, sym, ap, subst, ◌∙◌, arith, mul-le-mul_left}
 use Rattle.std.proofs.lemmas.Bool.Decides.{nat_tests}
 use Rattle.grammar.specs.States.{State, Read, Read.done, ◌>>=◌, is_any, take_any}
@@ -13,7 +13,7 @@ use Rattle.wgsl_read_dialect.specs.Steps.{Steps, Steps.no_step, Steps.a_token, S
 use Rattle.wgsl_read_dialect.specs.Following.{forgotten, repeated, follow}
 use Rattle.wgsl_read_dialect.specs.Weights.{can_be_empty, symbol_weight, weight, token_weight, is_settled}
 use Rattle.wgsl_read_dialect.specs.Work.{work, IsWorkLeft}
-use Rattle.wgsl_read_dialect.proofs.Following.{behind_done, passes_is}
+use Rattle.wgsl_read_dialect.proofs.Following.{after_done, passes_is}
 use Rattle.wgsl_read_dialect.proofs.Weights.{least, rule_settled, rule_weighs, rule_empty, follow_takes}
 
 -- following w is following g and then k
@@ -55,7 +55,7 @@ unfolding token_weight
 in_token L cs k s e =
     let q = and_true _ _ e in
     record {
-      same = ap (λ (x : Read (Unit {0})). x >>= λ u s'. follow L k s') (sym (behind_done (forgotten (take_any cs s))));
+      same = ap (λ (x : Read (Unit {0})). x >>= λ u s'. follow L k s') (sym (after_done (forgotten (take_any cs s))));
       inner = refl;
       outer = q.1;
       after = omega arith;
@@ -77,25 +77,25 @@ in_rule L n k s e =
 in_first : (L : Dialect) (cs : List ℕ) (g h k : Steps) (s : State)
     → is_settled (a_choice cs g h k) ≡ true → is_any cs s ≡ true → IsInside L g k (a_choice cs g h k) s
 in_first L cs g h k s e b =
-    let q = and_true _ _ e in let inside = and_true _ _ q.0 in let behind_it = and_true _ _ q.1 in
+    let q = and_true _ _ e in let inside = and_true _ _ q.0 in let after_it = and_true _ _ q.1 in
     record {
       same = ap (λ (x : Bool). cond x (follow L g s) (follow L h s) >>= λ u s'. follow L k s') b;
       inner = inside.0;
-      outer = behind_it.1;
+      outer = after_it.1;
       after = after_first (can_be_empty g) (can_be_empty h) (weight g) (weight h) (weight k);
-      most = at_most _ _ behind_it.0;
+      most = at_most _ _ after_it.0;
     }
 
 in_second : (L : Dialect) (cs : List ℕ) (g h k : Steps) (s : State)
     → is_settled (a_choice cs g h k) ≡ true → is_any cs s ≡ false → IsInside L h k (a_choice cs g h k) s
 in_second L cs g h k s e b =
-    let q = and_true _ _ e in let inside = and_true _ _ q.0 in let behind_it = and_true _ _ q.1 in
+    let q = and_true _ _ e in let inside = and_true _ _ q.0 in let after_it = and_true _ _ q.1 in
     record {
       same = ap (λ (x : Bool). cond x (follow L g s) (follow L h s) >>= λ u s'. follow L k s') b;
       inner = inside.1;
-      outer = behind_it.1;
+      outer = after_it.1;
       after = after_second (can_be_empty g) (can_be_empty h) (weight g) (weight h) (weight k);
-      most = at_most _ _ behind_it.0;
+      most = at_most _ _ after_it.0;
     }
 
 pub in_choice : (L : Dialect) (cs : List ℕ) (c g h k : Steps) (s : State)
@@ -113,18 +113,18 @@ pub in_items : (L : Dialect) (cs : List ℕ) (h k : Steps) (s : State)
 unfolding token_weight
 in_items L cs h k s e =
     let q = and_true (not (can_be_empty h) && is_settled h)
-    (nat_le (weight k) token_weight && is_settled k) e in let behind_it = and_true _ _ q.1 in
+    (nat_le (weight k) token_weight && is_settled k) e in let after_it = and_true _ _ q.1 in
     record {
       same = ap (λ (x : Read (Unit {0})). x >>= λ u s'. follow L k s')
-          (sym (behind_done (repeated cs (follow L h) s)));
+          (sym (after_done (repeated cs (follow L h) s)));
       inner = ap (λ (x : Bool). x && true) q.0;
-      outer = behind_it.1;
+      outer = after_it.1;
       after = after_any true (weight h) (weight k);
-      most = at_most _ _ behind_it.0;
+      most = at_most _ _ after_it.0;
     }
 
 -- ---- what is left then
--- the steps behind, once the inner part is followed
+-- the steps after, once the inner part is followed
 pub goes_on : {L : Dialect} (g k w : Steps) (s : State) (u : Unit {0}) (s' : State) (whole : Read (Unit {0})) (n : ℕ)
     → IsInside L g k w s → IsWorkLeft L whole n w s → follow L g s ≡ done u s'
     → IsWorkLeft L whole n k s' × (work k s' < work w s)
@@ -151,7 +151,7 @@ goes_on {L} g k w s u s' whole n i l e =
         let m : token_weight * suc x ≤ token_weight * y = mul-le-mul_left token_weight
         (let l : suc x ≤ y = omega arith in l) in omega arith
 
--- the inner part, where no steps are behind
+-- the inner part, where no steps are after
 pub goes_in : {L : Dialect} (g w : Steps) (s : State) (whole : Read (Unit {0})) (n : ℕ)
     → IsInside L g no_step w s → IsWorkLeft L whole n w s → weight g < weight w
     → IsWorkLeft L whole n g s × (work g s < work w s)
@@ -159,7 +159,7 @@ unfolding work
 goes_in {L} g w s whole n i l h =
     let most : token_weight * length s.rest + weight w ≤ n = l.lighter in (
       record {
-        follows = sym (i.same ∙ behind_done (follow L g s)) ∙ l.follows;
+        follows = sym (i.same ∙ after_done (follow L g s)) ∙ l.follows;
         settled = i.inner;
         lighter = omega (arith, most, h);
       },

@@ -1,4 +1,4 @@
--- What is answered of the tokens of a text is what the definitions name.
+-- What is returned for the tokens of a text is what the definitions name.
 use Rattle.std.proofs.Common.{◌≡◌, ◌⊎◌, inl, inr, ℕ, false, List, [], ◌∷◌, length, refl, sym, ap, subst, ◌∙◌}
 use Rattle.std.specs.Prelude.{Result, Ok, Err, IfOk, IfErr, chars}
 use Rattle.std.specs.Str.{IsUtf8}

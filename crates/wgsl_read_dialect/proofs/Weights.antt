@@ -56,22 +56,22 @@ least b = cond b 0 1
 abbrev Passed : Type 0
 Passed = Read (Unit {0})
 
--- what was done behind a part
+-- what was done after a part
 parted : {A : Type 0} (m : Read A) (f : A → State → Passed) (u : Unit {0}) (s' : State)
     → (m >>= f) ≡ done u s' → (a : A) × (t : State) × (m ≡ done a t) × (f a t ≡ done u s')
 parted (done a t) f u s' e = (a, t, refl, e)
 parted (stop x) f u s' e = absurd cc
 
-behind_part : {A : Type 0} (m : Read A) (u : Unit {0}) (s' : State) → forgotten m ≡ done u s'
+after_part : {A : Type 0} (m : Read A) (u : Unit {0}) (s' : State) → forgotten m ≡ done u s'
     → (a : A) × (m ≡ done a s')
-behind_part (done a t) u s' e = let q : t ≡ s' = cc in (a, ap (λ (z : State). done a z) q)
-behind_part (stop x) u s' e = absurd cc
+after_part (done a t) u s' e = let q : t ≡ s' = cc in (a, ap (λ (z : State). done a z) q)
+after_part (stop x) u s' e = absurd cc
 
 symbol_takes : (L : Dialect) (n : FactoredSymbol) (s : State) (u : Unit {0}) (s' : State)
     → passes L n s ≡ done u s' → length s'.rest + least (empties n) ≤ length s.rest
 unfolding passes
 symbol_takes L n s u s' e =
-    let q = behind_part (reads tables (unchecked_body L) rank_limit n s) u s' e in
+    let q = after_part (reads tables (unchecked_body L) rank_limit n s) u s' e in
     by_case (empties n) refl q.0 q.1
   where
     by_case : (b : Bool) → empties n ≡ b → (v : FactoredValue n)
@@ -146,7 +146,7 @@ unfolding repeated
 follow_takes L no_step s u s' e = let l = stayed s _ u s' e in omega (arith, l)
 follow_takes L (a_token cs k) s u s' e =
     let p = parted (forgotten (take_any cs s)) _ u s' e in
-    let q = behind_part (take_any cs s) p.0 p.1 p.2 in
+    let q = after_part (take_any cs s) p.0 p.1 p.2 in
     let a = token_takes cs s q.0 p.1 q.1 in let b = follow_takes L k p.1 u s' p.3 in omega (arith, a, b)
 follow_takes L (a_symbol n k) s u s' e =
     let p = parted (passes L n s) _ u s' e in

@@ -29,7 +29,7 @@ AreUnit parsed ts = IsSentence written unit ts
 AreUnit recognized ts = (v : TranslationUnit) × Derives checking small unit v ts
 
 -- The tokens ended of themselves and are a unit of the dialect; or the fault is the one that is
--- named of them; or memory was refused.
+-- named of them; or an allocation failed.
 abbrev pub Recognized : Dialect → Result (Unit {0}) Error → List Token → Ending → Type 0
 Recognized L (Ok u) ts ending = (ending ≡ finished) × AreUnit L ts
 Recognized L (Err e) ts ending = IsOutOfMemory e ⊎ IsNamedUnchecked L unit ts ending (fault_view e)

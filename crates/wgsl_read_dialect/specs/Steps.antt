@@ -36,7 +36,7 @@ opened L (a_symbol n k) = steps_of (unchecked_body L n) (opened L k)
 opened L (a_choice cs g h k) = a_choice cs (opened L g) (opened L h) (opened L k)
 opened L (items cs h k) = items cs h (opened L k)
 
--- the steps of a symbol's right side; those of each statement that ends with a block stand in it
+-- the steps of a symbol's right side; those of each statement that ends with a block are in it
 unfoldable pub rule_steps : Dialect → FactoredSymbol → Steps
 rule_steps L (further braced_part) = opened L (steps_of (unchecked_body L (further braced_part)) no_step)
 rule_steps L n = steps_of (unchecked_body L n) no_step

@@ -12,7 +12,7 @@ use crate::dialect::Dialect;
 use crate::step::Step;
 use crate::{expressions, parsed, simple, statements, units};
 
-/// A symbol: those of the written grammar, and behind them those that stand for a part of a rule.
+/// A symbol: those of the written grammar, and after them those that stand for a part of a rule.
 #[derive(Clone, Copy)]
 pub enum Symbol {
     Ident,

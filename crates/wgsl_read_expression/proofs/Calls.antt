@@ -30,7 +30,7 @@ seen e = record {
   span = e.span;
 }
 
--- lists of expressions, as they stand in a tree
+-- lists of expressions, as they are in a tree
 pub nodes_are : (es : List (Spanned Expression))
     → V.nodes_of (map seen es) ≡ plain.expressions_of (map V.expression_node_view es)
 unfolding seen

@@ -6,7 +6,7 @@ use Rattle.grammar.specs.Notation.{◌means◌, ◌or◌, ◌then◌, ◌gives�
 use Rattle.grammar.specs.States.{State, Read, Read.done, Read.stop, ◌>>=◌, refused, is_at, is_any, next_start, span_from, take, turns, go}
 use Rattle.grammar.proofs.Reading.Beginnings.{cond_no}
 use Rattle.grammar.proofs.States.{Shortens, turns_are, shortens}
-use Rattle.grammar.proofs.Lists.{separated, behind_none}
+use Rattle.grammar.proofs.Lists.{separated, after_none}
 use Rattle.grammar.proofs.Binding.{bind_associates, bind_alike, bind_cond, pair_goes_on}
 use Rattle.wgsl_model.specs.Tokens.ClassTable.{SymAnd, SymAndAnd, SymBang, SymBracketLeft, SymComma, SymMinus, SymMinusMinus, SymOr, SymOrOr, SymParenLeft, SymParenRight, SymPeriod, SymPlus, SymShiftLeft, SymShiftRight, SymStar, SymTilde, SymXor, KwTrue, KwFalse, Ident, ReservedWord, AbstractInt, I32, U32, AbstractFloat, F32, F16, TemplateArgsEnd}
 use Rattle.wgsl_model.specs.Trees.Operators.{BinaryOperator, BinaryOperator.subtraction, BinaryOperator.short_circuit_or, BinaryOperator.short_circuit_and, BinaryOperator.bitwise_or, BinaryOperator.bitwise_and, BinaryOperator.bitwise_xor, BinaryOperator.shift_left, BinaryOperator.shift_right}
@@ -15,13 +15,13 @@ use Rattle.wgsl_model.specs.Trees.Expressions.{ExpressionNode, Expression}
 use Rattle.wgsl_model.specs.Grammar.ExpressionParts.{placed_expression, binary_of, negation_of, multiplicative_operator, additive_operator}
 use Rattle.wgsl_model.specs.Grammar.Symbols.{Symbol.literal, Symbol.primary_expression, Symbol.singular_expression, Symbol.component, Symbol.unary_expression, Symbol.multiplicative_expression, Symbol.negated_expression, Symbol.shift_expression, Symbol.relational_expression, Symbol.expression}
 use Rattle.wgsl_theory_grammar.specs.Factored.{FactoredRule, FactoredSymbol.of, FactoredSymbol.further, Growth, Further.template_items, Further.template_rest, Further.template_more, Further.argument_rest, Further.argument_more, Further.components, Further.factors, Further.summands, Further.sum_rest, Further.relation_rest, Further.and_rest, Further.or_rest, Further.bitwise_and_rest, Further.bitwise_or_rest, Further.bitwise_xor_rest, Further.expression_rest, lifted, body, with_operand, grown_by_component}
-use Rattle.wgsl_theory_grammar.specs.Factored.{grown as joined_behind}
+use Rattle.wgsl_theory_grammar.specs.Factored.{grown as joined_after}
 use Rattle.wgsl_theory_grammar.specs.Tables.{rank_limit, tables, begin_primary_expression}
 use Rattle.wgsl_theory_grammar.specs.Reader.{reader}
 use Rattle.wgsl_theory_grammar.proofs.Passes.{passes}
 use Rattle.wgsl_theory_grammar.proofs.Reader.{step}
-use Rattle.wgsl_read_expression.specs.Rules.{binary_operators, unary_operators, multiplicative_operators, relational_operators, call_or_type_at, parenthesized_expression_at, primary_at, component_behind, unary_operator_at, multiplicative_operator_at, additive_operator_at, relational_operator_at, factors_behind, products_from, summand_at, summands_behind, sum_behind, relation_behind, bitwise_behind, logical_behind, logical_at, expression_behind}
-use Rattle.wgsl_read_expression.proofs.Turns.{template_items_from, template_items_turn, arguments_from, arguments_turn, placed_primary_at, components_behind, components_turn, singular_at, unary_at, factors_turn, products_turn, product_at, negated_product_at, summands_turn, sum_turn, shift_at, relation_turn, relational_at, bitwise_turn, logical_turn, expression_turn, whole_expression_at}
+use Rattle.wgsl_read_expression.specs.Rules.{binary_operators, unary_operators, multiplicative_operators, relational_operators, call_or_type_at, parenthesized_expression_at, primary_at, component_after, unary_operator_at, multiplicative_operator_at, additive_operator_at, relational_operator_at, factors_after, products_from, summand_at, summands_after, sum_after, relation_after, bitwise_after, logical_after, logical_at, expression_after}
+use Rattle.wgsl_read_expression.proofs.Turns.{template_items_from, template_items_turn, arguments_from, arguments_turn, placed_primary_at, components_after, components_turn, singular_at, unary_at, factors_turn, products_turn, product_at, negated_product_at, summands_turn, sum_turn, shift_at, relation_turn, relational_at, bitwise_turn, logical_turn, expression_turn, whole_expression_at}
 use Rattle.wgsl_read_expression.proofs.Binding.{cond_alike}
 use Rattle.wgsl_read_expression.proofs.Lists.{one_and_more}
 use Rattle.wgsl_read_expression.proofs.Choices.{none_at, tested_first, refuses, not_taken}
@@ -30,21 +30,21 @@ use Rattle.wgsl_read_expression.proofs.Growing.{applied, grows_by_turns, grown_p
 -- ---- lists
 pub template_items_is : (s : State) → reader (further template_items) s ≡ template_items_from [] s
 unfolding template_items_from
-template_items_is s = behind_none (reader (further template_items) s)
+template_items_is s = after_none (reader (further template_items) s)
 
 template_rest_is : (es : List ExpressionNode) (s : State)
     → (reader (further template_rest) s >>= λ more s'. done (es ++ more) s')
     ≡ cond (is_at TemplateArgsEnd s) (take TemplateArgsEnd s >>= λ t s'. done es s') (template_items_from es s)
 unfolding template_items_from
 template_rest_is es s =
-    ap (λ m. m >>= behind) (step (further template_rest) s) ∙ bind_cond (is_at TemplateArgsEnd s) _ _ behind
+    ap (λ m. m >>= following) (step (further template_rest) s) ∙ bind_cond (is_at TemplateArgsEnd s) _ _ following
     ∙ ap₂ (cond (is_at TemplateArgsEnd s))
-    (bind_associates (take TemplateArgsEnd s) _ behind
+    (bind_associates (take TemplateArgsEnd s) _ following
     ∙ bind_alike (take TemplateArgsEnd s) _ _ (λ t s' is. ap (λ x. done x s') (append-nil es)))
-    (ap (λ m. m >>= behind) (sym (step (further template_items) s)))
+    (ap (λ m. m >>= following) (sym (step (further template_items) s)))
   where
-    behind : List ExpressionNode → State → Read (List ExpressionNode)
-    behind more s = done (es ++ more) s
+    following : List ExpressionNode → State → Read (List ExpressionNode)
+    following more s = done (es ++ more) s
 
 pub template_items_are : (es : List ExpressionNode) (s : State) → template_items_from es s ≡ template_items_turn es s
 unfolding template_items_from template_items_turn
@@ -59,7 +59,7 @@ template_items_are es s =
 
 pub argument_rest_is : (s : State) → reader (further argument_rest) s ≡ arguments_from [] s
 unfolding arguments_from
-argument_rest_is s = behind_none (reader (further argument_rest) s)
+argument_rest_is s = after_none (reader (further argument_rest) s)
 
 pub arguments_are : (es : List ExpressionNode) (s : State) → arguments_from es s ≡ arguments_turn es s
 unfolding arguments_from arguments_turn
@@ -104,16 +104,16 @@ component_placed : (e : ExpressionNode) (m : Read (ExpressionNode → Expression
 component_placed e (done c s) f = refl
 component_placed e (stop x) f = refl
 
-pub components_are : (e : ExpressionNode) (s : State) → components_behind e s ≡ components_turn e s
-unfolding components_behind components_turn component_behind reader component_item
+pub components_are : (e : ExpressionNode) (s : State) → components_after e s ≡ components_turn e s
+unfolding components_after components_turn component_after reader component_item
 components_are e s =
     grows_by_turns grown_by_component component_step (λ g c span e. refl) _ _ (shortens tables body rank_limit
     passes component_item refl refl refl) (reader (further components)) (step (further components)) e s
     ∙ ap (λ (m : Read ExpressionNode). cond (is_any (SymBracketLeft ∷ SymPeriod ∷ []) s) m (done e s))
-    (component_placed e (reader (of component) s) components_behind)
+    (component_placed e (reader (of component) s) components_after)
 
 pub singular_expression_is : (s : State) → reader (of singular_expression) s ≡ singular_at s
-unfolding singular_at components_behind
+unfolding singular_at components_after
 singular_expression_is s = step (of singular_expression) s
     ∙ grown_pair (reader (of primary_expression) s) (reader (further components))
 
@@ -151,14 +151,14 @@ unary_expression_is s =
 factor_item : FactoredRule (BinaryOperator × ExpressionNode)
 factor_item = lifted multiplicative_operator then symbol (of unary_expression)
 
-pub factors_are : (e : ExpressionNode) (s : State) → factors_behind e s ≡ factors_turn e s
-unfolding factors_behind factors_turn multiplicative_operator_at reader factor_item
+pub factors_are : (e : ExpressionNode) (s : State) → factors_after e s ≡ factors_turn e s
+unfolding factors_after factors_turn multiplicative_operator_at reader factor_item
 factors_are e s =
-    grows_by_turns joined_behind (λ e p. with_operand p e) (λ g p span e. refl) _ _ (shortens tables body
+    grows_by_turns joined_after (λ e p. with_operand p e) (λ g p span e. refl) _ _ (shortens tables body
     rank_limit passes factor_item refl refl refl) (reader (further factors)) (step (further factors)) e s
     ∙ ap (λ (m : Read ExpressionNode). cond (is_any multiplicative_operators s) m (done e s))
     (pair_goes_on (multiplicative_operator_at s) (reader (of unary_expression))
-    (λ p s'. factors_behind (with_operand p e) s'))
+    (λ p s'. factors_after (with_operand p e) s'))
 
 pub products_are : (start : ℕ) (e : ExpressionNode) (s : State) → products_from start e s ≡ products_turn start e s
 unfolding products_from products_turn multiplicative_operator_at reader factor_item
@@ -199,10 +199,10 @@ summand_item : FactoredRule (BinaryOperator × ExpressionNode)
 summand_item = lifted additive_operator then symbol (of multiplicative_expression)
     or symbol (of negated_expression) gives λ (e : ExpressionNode). (subtraction, e)
 
-pub summands_are : (e : ExpressionNode) (s : State) → summands_behind e s ≡ summands_turn e s
-unfolding summands_behind summands_turn summand_at additive_operator_at reader summand_item
+pub summands_are : (e : ExpressionNode) (s : State) → summands_after e s ≡ summands_turn e s
+unfolding summands_after summands_turn summand_at additive_operator_at reader summand_item
 summands_are e s =
-    grows_by_turns joined_behind (λ e p. with_operand p e) (λ g p span e. refl) _ _
+    grows_by_turns joined_after (λ e p. with_operand p e) (λ g p span e. refl) _ _
     (shortens tables body rank_limit passes summand_item refl refl refl) (reader (further summands))
     (step (further summands)) e s
 
@@ -216,8 +216,8 @@ shifted class operator e s =
     grown_once e (take class s >>= λ t s'. done operator s') (reader (of unary_expression))
     ∙ bind_associates (take class s) _ _
 
-pub sum_is : (e : ExpressionNode) (s : State) → sum_behind e s ≡ sum_turn e s
-unfolding sum_behind sum_turn factors_behind summands_behind
+pub sum_is : (e : ExpressionNode) (s : State) → sum_after e s ≡ sum_turn e s
+unfolding sum_after sum_turn factors_after summands_after
 sum_is e s =
     ap (λ m. m >>= applied e) (step (further sum_rest) s) ∙ bind_cond (is_at SymShiftLeft s) _ _ (applied e)
     ∙ ap₂ (cond (is_at SymShiftLeft s)) (shifted SymShiftLeft shift_left e s)
@@ -226,12 +226,12 @@ sum_is e s =
     (grown_twice e (reader (further factors) s) (reader (further summands))))
 
 pub shift_expression_is : (s : State) → reader (of shift_expression) s ≡ shift_at s
-unfolding shift_at sum_behind
+unfolding shift_at sum_after
 shift_expression_is s = step (of shift_expression) s
     ∙ grown_pair (reader (of unary_expression) s) (reader (further sum_rest))
 
-pub relation_is : (e : ExpressionNode) (s : State) → relation_behind e s ≡ relation_turn e s
-unfolding relation_behind relation_turn relational_operator_at
+pub relation_is : (e : ExpressionNode) (s : State) → relation_after e s ≡ relation_turn e s
+unfolding relation_after relation_turn relational_operator_at
 relation_is e s =
     ap (λ m. m >>= applied e) (step (further relation_rest) s)
     ∙ bind_cond (is_any relational_operators s) _ (done (λ e. e) s) (applied e)
@@ -239,7 +239,7 @@ relation_is e s =
     (grown_once e (relational_operator_at s) (reader (of shift_expression)))
 
 pub relational_expression_is : (s : State) → reader (of relational_expression) s ≡ relational_at s
-unfolding relational_at relation_behind
+unfolding relational_at relation_after
 relational_expression_is s = step (of relational_expression) s
     ∙ grown_pair (reader (of shift_expression) s) (reader (further relation_rest))
 
@@ -253,13 +253,13 @@ unfolding reader bitwise_item
 bitwise_shortens class operator = shortens tables body rank_limit passes (bitwise_item class operator) refl refl refl
 
 pub bitwise_are : (class : ℕ) (operator : BinaryOperator) (e : ExpressionNode) (s : State)
-    → bitwise_behind class operator e s ≡ bitwise_turn class operator e s
-unfolding bitwise_behind bitwise_turn
+    → bitwise_after class operator e s ≡ bitwise_turn class operator e s
+unfolding bitwise_after bitwise_turn
 bitwise_are class operator e s =
     turns_are _ _ _ (bitwise_shortens class operator) 0 e s
     ∙ ap (λ (m : Read ExpressionNode). cond (is_at class s) m (done e s))
     (pair_goes_on (take class s >>= λ t s'. done operator s') (reader (of unary_expression))
-    (λ p s'. bitwise_behind class operator (with_operand p e) s') ∙ bind_associates (take class s) _ _)
+    (λ p s'. bitwise_after class operator (with_operand p e) s') ∙ bind_associates (take class s) _ _)
 
 logical_item : ℕ → BinaryOperator → FactoredRule (BinaryOperator × ExpressionNode)
 logical_item class operator = class means operator then symbol (of relational_expression)
@@ -270,13 +270,13 @@ unfolding reader logical_item
 logical_shortens class operator = shortens tables body rank_limit passes (logical_item class operator) refl refl refl
 
 pub logical_are : (class : ℕ) (operator : BinaryOperator) (e : ExpressionNode) (s : State)
-    → logical_behind class operator e s ≡ logical_turn class operator e s
-unfolding logical_behind logical_turn
+    → logical_after class operator e s ≡ logical_turn class operator e s
+unfolding logical_after logical_turn
 logical_are class operator e s =
     turns_are _ _ _ (logical_shortens class operator) 0 e s
     ∙ ap (λ (m : Read ExpressionNode). cond (is_at class s) m (done e s))
     (pair_goes_on (take class s >>= λ t s'. done operator s') (reader (of relational_expression))
-    (λ p s'. logical_behind class operator (with_operand p e) s') ∙ bind_associates (take class s) _ _)
+    (λ p s'. logical_after class operator (with_operand p e) s') ∙ bind_associates (take class s) _ _)
 
 -- `&&` or `||` and their operands, or none
 logical_growth : State → Read Growth
@@ -284,7 +284,7 @@ logical_growth s = cond (is_at SymAndAnd s) (reader (further and_rest) s)
     (cond (is_at SymOrOr s) (reader (further or_rest) s) (done (λ e. e) s))
 
 logical_is : (e : ExpressionNode) (s : State) → (logical_growth s >>= applied e) ≡ logical_at e s
-unfolding logical_growth logical_at logical_behind
+unfolding logical_growth logical_at logical_after
 logical_is e s =
     bind_cond (is_at SymAndAnd s) _ _ (applied e)
     ∙ cond_alike (is_at SymAndAnd s) _ _ _ _ (λ at. ap (λ m. m >>= applied e) (step (further and_rest) s)
@@ -295,11 +295,11 @@ logical_is e s =
 
 bitwise_is : (class : ℕ) (operator : BinaryOperator) (growth : State → Read Growth)
     → ((s : State) → growth s ≡ ((go tables reader (class means operator then symbol (of unary_expression)) s
-    >>= λ p s'. done (with_operand p) s') >>= λ g s'. turns joined_behind (class ∷ [])
+    >>= λ p s'. done (with_operand p) s') >>= λ g s'. turns joined_after (class ∷ [])
     (go tables reader (class means operator then symbol (of unary_expression))) (next_start s) g s'))
     → (e : ExpressionNode) (s : State) → is_at class s ≡ true
-    → (growth s >>= applied e) ≡ bitwise_behind class operator e s
-unfolding bitwise_behind
+    → (growth s >>= applied e) ≡ bitwise_after class operator e s
+unfolding bitwise_after
 bitwise_is class operator growth k e s at = ap (λ m. m >>= applied e) (k s)
     ∙ grows_once_or_more class _ (bitwise_shortens class operator) e s at
 
@@ -308,8 +308,8 @@ relational_is : (e : ExpressionNode) (s : State)
     → (((reader (further sum_rest) s >>= λ f s'. (reader (further relation_rest) s'
     >>= λ g s''. logical_growth s'' >>= λ h s'''. done (g, h) s''') >>= λ gh s'. done (f, gh) s')
     >>= λ (p : Growth × (Growth × Growth)) s'. done (λ e. p.1.1 (p.1.0 (p.0 e))) s') >>= applied e)
-    ≡ (sum_behind e s >>= λ e s'. relation_behind e s' >>= logical_at)
-unfolding sum_behind relation_behind
+    ≡ (sum_after e s >>= λ e s'. relation_after e s' >>= logical_at)
+unfolding sum_after relation_after
 relational_is e s =
     bind_associates (reader (further sum_rest) s >>= λ f s'. (reader (further relation_rest) s'
     >>= λ g s''. logical_growth s'' >>= λ h s'''. done (g, h) s''') >>= λ gh s'. done (f, gh) s') _ (applied e)
@@ -321,9 +321,9 @@ relational_is e s =
     ∙ sym (bind_associates (reader (further relation_rest) s') (applied (f e)) logical_at))
     ∙ sym (bind_associates (reader (further sum_rest) s) (applied e) _)
 
-pub expression_behind_is : (e : ExpressionNode) (s : State) → expression_behind e s ≡ expression_turn e s
-unfolding expression_behind expression_turn logical_growth
-expression_behind_is e s =
+pub expression_after_is : (e : ExpressionNode) (s : State) → expression_after e s ≡ expression_turn e s
+unfolding expression_after expression_turn logical_growth
+expression_after_is e s =
     ap (λ m. m >>= applied e) (step (further expression_rest) s)
     ∙ bind_cond (is_at SymAnd s) _ _ (applied e)
     ∙ cond_alike (is_at SymAnd s) _ _ _ _ (bitwise_is SymAnd bitwise_and
@@ -338,30 +338,30 @@ expression_behind_is e s =
 
 -- where no operator is next, an operand is the whole expression
 pub operand_alone : (e : ExpressionNode) (s : State) → is_any binary_operators s ≡ false
-    → expression_behind e s ≡ done e s
+    → expression_after e s ≡ done e s
 unfolding expression_turn sum_turn factors_turn summands_turn relation_turn logical_at
 operand_alone e s none =
-    expression_behind_is e s
+    expression_after_is e s
     ∙ cond_no (is_at SymAnd s) _ _ (none_at (SymAnd ∷ []) binary_operators refl s none)
     ∙ cond_no (is_at SymOr s) _ _ (none_at (SymOr ∷ []) binary_operators refl s none)
     ∙ cond_no (is_at SymXor s) _ _ (none_at (SymXor ∷ []) binary_operators refl s none)
-    ∙ ap (λ m. m >>= λ e s'. relation_behind e s' >>= logical_at) alone_in_sum
+    ∙ ap (λ m. m >>= λ e s'. relation_after e s' >>= logical_at) alone_in_sum
     ∙ ap (λ m. m >>= logical_at) (relation_is e s ∙ cond_no (is_any relational_operators s) _ _
     (none_at relational_operators binary_operators refl s none))
     ∙ cond_no (is_at SymAndAnd s) _ _ (none_at (SymAndAnd ∷ []) binary_operators refl s none)
     ∙ cond_no (is_at SymOrOr s) _ _ (none_at (SymOrOr ∷ []) binary_operators refl s none)
   where
-    alone_in_sum : sum_behind e s ≡ done e s
+    alone_in_sum : sum_after e s ≡ done e s
     alone_in_sum =
         sum_is e s
         ∙ cond_no (is_at SymShiftLeft s) _ _ (none_at (SymShiftLeft ∷ []) binary_operators refl s none)
         ∙ cond_no (is_at SymShiftRight s) _ _ (none_at (SymShiftRight ∷ []) binary_operators refl s none)
-        ∙ ap (λ m. m >>= summands_behind) (factors_are e s ∙ cond_no (is_any multiplicative_operators s)
+        ∙ ap (λ m. m >>= summands_after) (factors_are e s ∙ cond_no (is_any multiplicative_operators s)
         _ _ (none_at multiplicative_operators binary_operators refl s none))
         ∙ summands_are e s ∙ cond_no (is_any (SymPlus ∷ SymMinus ∷ SymMinusMinus ∷ []) s) _ _
         (none_at (SymPlus ∷ SymMinus ∷ SymMinusMinus ∷ []) binary_operators refl s none)
 
 pub expression_is : (s : State) → reader (of expression) s ≡ whole_expression_at s
-unfolding whole_expression_at expression_behind
+unfolding whole_expression_at expression_after
 expression_is s = step (of expression) s
     ∙ grown_pair (reader (of unary_expression) s) (reader (further expression_rest))

@@ -8,14 +8,14 @@ use Rattle.grammar.proofs.Binding.{bind_associates, bind_alike, pair_goes_on}
 use Rattle.wgsl_model.specs.Trees.Expressions.{ExpressionNode}
 use Rattle.wgsl_model.specs.Trees.Operators.{BinaryOperator}
 use Rattle.wgsl_theory_grammar.specs.Factored.{Growth, with_operand}
-use Rattle.wgsl_theory_grammar.specs.Factored.{grown as joined_behind}
+use Rattle.wgsl_theory_grammar.specs.Factored.{grown as joined_after}
 use Rattle.wgsl_read_expression.specs.Growing.{read_growth}
 
 -- what is read grows an operand
 abbrev pub applied : ExpressionNode → Growth → State → Read ExpressionNode
 applied e f s = done (f e) s
 
--- what goes on behind a choice
+-- what goes on after a choice
 pub bind_pick : {A B : Type 0} (b : Bool) (x y : Read A) (f : A → State → Read B)
     → (pick b x y >>= f) ≡ pick b (x >>= f) (y >>= f)
 bind_pick true x y f = refl
@@ -45,7 +45,7 @@ pub grows : {B : Type 0} (f : Growth → B → Span → Growth) (step : Expressi
     → (turns f c r start g s >>= applied e) ≡ turns (λ e b span. step e b) c r other (g e) s
 grows f step h c r start other g e s = grows_in f step h c r start other (length s.rest) g e s
 
--- one item more behind an operand, where the next token begins one
+-- one item more after an operand, where the next token begins one
 pub grows_by_turns : {B : Type 0} (f : Growth → B → Span → Growth) (step : ExpressionNode → B → ExpressionNode)
     → GrowsBy f step → (c : List ℕ) (r : State → Read B) → Shortens r
     → (growth : State → Read Growth) → ((s : State) → growth s ≡ turns f c r (next_start s) (λ e. e) s)
@@ -72,7 +72,7 @@ pub grown_twice : (e : ExpressionNode) (m : Read Growth) (r : State → Read Gro
 grown_twice e m r = bind_associates (m >>= λ f s. r s >>= λ g s'. done (f, g) s') _ (applied e)
     ∙ pair_goes_on m r _ ∙ sym (bind_associates m (applied e) _)
 
--- an operator and an operand behind an operand
+-- an operator and an operand after an operand
 pub grown_once : (e : ExpressionNode) (m : Read BinaryOperator) (r : State → Read ExpressionNode)
     → (((m >>= λ op s. r s >>= λ right s'. done (op, right) s') >>= λ p s. done (with_operand p) s)
     >>= applied e) ≡ (m >>= λ op s. r s >>= λ right s'. done (with_operand (op, right) e) s')
@@ -82,12 +82,12 @@ grown_once e m r = bind_associates (m >>= λ op s. r s >>= λ right s'. done (op
 -- one operator and operand at least, where the operator is there
 pub grows_once_or_more : (c : ℕ) (r : State → Read (BinaryOperator × ExpressionNode)) → Shortens r
     → (e : ExpressionNode) (s : State) → is_at c s ≡ true
-    → (((r s >>= λ p s'. done (with_operand p) s') >>= λ g s'. turns joined_behind (c ∷ []) r (next_start s) g s')
+    → (((r s >>= λ p s'. done (with_operand p) s') >>= λ g s'. turns joined_after (c ∷ []) r (next_start s) g s')
     >>= applied e) ≡ turns (λ (left : ExpressionNode) (p : BinaryOperator × ExpressionNode) span.
     with_operand p left) (c ∷ []) r 0 e s
 grows_once_or_more c r H e s at =
     bind_associates (r s >>= λ p s'. done (with_operand p) s') _ (applied e) ∙ bind_associates (r s) _ _
-    ∙ bind_alike (r s) _ _ (λ p s' is. grows joined_behind (λ left p. with_operand p left)
+    ∙ bind_alike (r s) _ _ (λ p s' is. grows joined_after (λ left p. with_operand p left)
     (λ g p span e. refl) (c ∷ []) r (next_start s) 0 (with_operand p) e s')
     ∙ sym (turns_are (λ (left : ExpressionNode) (p : BinaryOperator × ExpressionNode) span.
     with_operand p left) (c ∷ []) r H 0 e s ∙ cond_yes (is_at c s) _ _ at)

@@ -33,8 +33,8 @@ next_in : (end : ℕ) (ts : List Token) (t : Token) (left : State) → first_tok
 unfolding literal_at is_at first_of after take
 next_in end [] t left h = absurd cc
 next_in end (u ∷ us) t left h =
-    let same : u ≡ t = cc in let behind : record { end = u.end; rest = us } ≡ left = cc in
-    literal_is (record { end = end; rest = u ∷ us }) ∙ ap₂ taken_as_literal same behind
+    let same : u ≡ t = cc in let following : record { end = u.end; rest = us } ≡ left = cc in
+    literal_is (record { end = end; rest = u ∷ us }) ∙ ap₂ taken_as_literal same following
 
 pub literal_next : (s left : State) (t : Token) → token_at s ≡ done t left
     → reader (of literal) s ≡ taken_as_literal t left

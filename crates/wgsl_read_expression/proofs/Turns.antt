@@ -10,10 +10,10 @@ use Rattle.wgsl_model.specs.Grammar.Symbols.{Symbol.primary_expression, Symbol.s
 use Rattle.wgsl_theory_grammar.specs.Factored.{FactoredSymbol.of, FactoredSymbol.further, Further.template_items, Further.argument_rest, Further.components, with_operand}
 use Rattle.wgsl_theory_grammar.specs.Reader.{reader}
 use Rattle.wgsl_read_expression.specs.Growing.{read_growth}
-use Rattle.wgsl_read_expression.specs.Rules.{unary_operators, multiplicative_operators, relational_operators, primary_at, component_behind, unary_operator_at, multiplicative_operator_at, relational_operator_at, factors_behind, products_from, summand_at, summands_behind, sum_behind, relation_behind, bitwise_behind, logical_behind, logical_at, expression_behind}
+use Rattle.wgsl_read_expression.specs.Rules.{unary_operators, multiplicative_operators, relational_operators, primary_at, component_after, unary_operator_at, multiplicative_operator_at, relational_operator_at, factors_after, products_from, summand_at, summands_after, sum_after, relation_after, bitwise_after, logical_after, logical_at, expression_after}
 
 -- ---- lists
--- the arguments of a template, behind some
+-- the arguments of a template, after some
 unfoldable pub template_items_from : List ExpressionNode → State → Read (List ExpressionNode)
 template_items_from es s = reader (further template_items) s >>= λ more s'. done (es ++ more) s'
 
@@ -24,7 +24,7 @@ template_items_turn es s = reader (of expression) s >>= λ e s'. cond (is_at Sym
     >>= λ t s'''. done (es ++ e ∷ []) s''') (template_items_from (es ++ e ∷ []) s''))
     (take TemplateArgsEnd s' >>= λ t s''. done (es ++ e ∷ []) s'')
 
--- arguments up to the closing parenthesis, behind some
+-- arguments up to the closing parenthesis, after some
 unfoldable pub arguments_from : List ExpressionNode → State → Read (List ExpressionNode)
 arguments_from es s = reader (further argument_rest) s >>= λ more s'. done (es ++ more) s'
 
@@ -36,23 +36,23 @@ arguments_turn es s = cond (is_at SymParenRight s) (take SymParenRight s >>= λ 
     (take SymParenRight s' >>= λ t s''. done (es ++ e ∷ []) s''))
 
 -- ---- primary expressions
--- a primary expression where it stands
+-- a primary expression where it is
 unfoldable pub placed_primary_at : State → Read ExpressionNode
 placed_primary_at s = primary_at s >>= λ e s'. done (placed_expression e (span_from (next_start s) s')) s'
 
 -- ---- components
--- the components behind a base
-unfoldable pub components_behind : ExpressionNode → State → Read ExpressionNode
-components_behind e s = read_growth e (reader (further components)) s
+-- the components after a base
+unfoldable pub components_after : ExpressionNode → State → Read ExpressionNode
+components_after e s = read_growth e (reader (further components)) s
 
 -- one component more, where there is one
 unfoldable pub components_turn : ExpressionNode → State → Read ExpressionNode
 components_turn e s = cond (is_any (SymBracketLeft ∷ SymPeriod ∷ []) s)
-    (component_behind e s >>= components_behind) (done e s)
+    (component_after e s >>= components_after) (done e s)
 
 -- a primary expression and its components
 unfoldable pub singular_at : State → Read ExpressionNode
-singular_at s = reader (of primary_expression) s >>= components_behind
+singular_at s = reader (of primary_expression) s >>= components_after
 
 -- ---- operators
 -- an operator and its operand, or else an operand with its components
@@ -67,7 +67,7 @@ unary_at s = cond (is_any unary_operators s)
 unfoldable pub factors_turn : ExpressionNode → State → Read ExpressionNode
 factors_turn e s = cond (is_any multiplicative_operators s)
     (multiplicative_operator_at s >>= λ op s'. reader (of unary_expression) s'
-    >>= λ right s''. factors_behind (with_operand (op, right) e) s'') (done e s)
+    >>= λ right s''. factors_after (with_operand (op, right) e) s'') (done e s)
 
 -- one factor more of a product that began at a place, where there is one
 unfoldable pub products_turn : ℕ → ExpressionNode → State → Read ExpressionNode
@@ -79,7 +79,7 @@ products_turn start e s = cond (is_any multiplicative_operators s)
 unfoldable pub product_at : State → Read ExpressionNode
 product_at s = reader (of unary_expression) s >>= λ e s'. products_from (next_start s) e s'
 
--- `--` with an operand and the factors behind it: the product starts at the second minus
+-- `--` with an operand and the factors after it: the product starts at the second minus
 unfoldable pub negated_product_at : State → Read ExpressionNode
 negated_product_at s = take SymMinusMinus s >>= λ t s'. reader (of unary_expression) s' >>= λ e s''.
     products_from (next_place (next_start s)) (negation_of e (span_from (next_start s) s'')) s''
@@ -87,7 +87,7 @@ negated_product_at s = take SymMinusMinus s >>= λ t s'. reader (of unary_expres
 -- one summand more, where there is one
 unfoldable pub summands_turn : ExpressionNode → State → Read ExpressionNode
 summands_turn e s = cond (is_any (SymPlus ∷ SymMinus ∷ SymMinusMinus ∷ []) s)
-    (summand_at s >>= λ p s'. summands_behind (with_operand p e) s') (done e s)
+    (summand_at s >>= λ p s'. summands_after (with_operand p e) s') (done e s)
 
 -- ---- shifts and comparisons
 -- a shift, or factors and summands
@@ -96,11 +96,11 @@ sum_turn e s = cond (is_at SymShiftLeft s) (take SymShiftLeft s >>= λ t s'.
     reader (of unary_expression) s' >>= λ right s''. done (with_operand (shift_left, right) e) s'')
     (cond (is_at SymShiftRight s) (take SymShiftRight s >>= λ t s'. reader (of unary_expression) s'
     >>= λ right s''. done (with_operand (shift_right, right) e) s'')
-    (factors_behind e s >>= summands_behind))
+    (factors_after e s >>= summands_after))
 
 -- a shift expression
 unfoldable pub shift_at : State → Read ExpressionNode
-shift_at s = reader (of unary_expression) s >>= sum_behind
+shift_at s = reader (of unary_expression) s >>= sum_after
 
 -- a comparison with one operand more, or none
 unfoldable pub relation_turn : ExpressionNode → State → Read ExpressionNode
@@ -110,28 +110,28 @@ relation_turn e s = cond (is_any relational_operators s)
 
 -- a relational expression
 unfoldable pub relational_at : State → Read ExpressionNode
-relational_at s = reader (of shift_expression) s >>= relation_behind
+relational_at s = reader (of shift_expression) s >>= relation_after
 
 -- ---- expressions
 -- one operand more, where there is one
 unfoldable pub bitwise_turn : ℕ → BinaryOperator → ExpressionNode → State → Read ExpressionNode
 bitwise_turn class operator e s = cond (is_at class s)
     (take class s >>= λ t s'. reader (of unary_expression) s'
-    >>= λ right s''. bitwise_behind class operator (with_operand (operator, right) e) s'') (done e s)
+    >>= λ right s''. bitwise_after class operator (with_operand (operator, right) e) s'') (done e s)
 
 -- one more, where there is one
 unfoldable pub logical_turn : ℕ → BinaryOperator → ExpressionNode → State → Read ExpressionNode
 logical_turn class operator e s = cond (is_at class s)
     (take class s >>= λ t s'. reader (of relational_expression) s'
-    >>= λ right s''. logical_behind class operator (with_operand (operator, right) e) s'') (done e s)
+    >>= λ right s''. logical_after class operator (with_operand (operator, right) e) s'') (done e s)
 
 -- the operands of a bitwise operator, or a relational expression with what may follow it
 unfoldable pub expression_turn : ExpressionNode → State → Read ExpressionNode
-expression_turn e s = cond (is_at SymAnd s) (bitwise_behind SymAnd bitwise_and e s)
-    (cond (is_at SymOr s) (bitwise_behind SymOr bitwise_or e s)
-    (cond (is_at SymXor s) (bitwise_behind SymXor bitwise_xor e s)
-    (sum_behind e s >>= λ e s'. relation_behind e s' >>= logical_at)))
+expression_turn e s = cond (is_at SymAnd s) (bitwise_after SymAnd bitwise_and e s)
+    (cond (is_at SymOr s) (bitwise_after SymOr bitwise_or e s)
+    (cond (is_at SymXor s) (bitwise_after SymXor bitwise_xor e s)
+    (sum_after e s >>= λ e s'. relation_after e s' >>= logical_at)))
 
 -- an expression
 unfoldable pub whole_expression_at : State → Read ExpressionNode
-whole_expression_at s = reader (of unary_expression) s >>= expression_behind
+whole_expression_at s = reader (of unary_expression) s >>= expression_after

@@ -1,4 +1,4 @@
--- What grows by what is read behind it.
+-- What grows by what is read after it.
 use Rattle.grammar.specs.States.{State, Read, Read.done, ◌>>=◌}
 use Rattle.wgsl_model.specs.Trees.Expressions.{ExpressionNode}
 

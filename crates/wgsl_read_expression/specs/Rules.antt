@@ -61,9 +61,9 @@ primary_at s = cond (is_any (Ident ∷ ReservedWord ∷ []) s) (call_or_type_at 
     (reader (of literal) s >>= λ l s'. done (Expression.literal l) s'))
 
 -- ---- components
--- a component behind a base
-unfoldable pub component_behind : ExpressionNode → State → Read ExpressionNode
-component_behind e s = reader (of component) s
+-- a component after a base
+unfoldable pub component_after : ExpressionNode → State → Read ExpressionNode
+component_after e s = reader (of component) s
     >>= λ c s'. done (placed_expression (c e) (record { start = tree.start_of e; end = s'.end })) s'
 
 -- ---- operators
@@ -84,11 +84,11 @@ unfoldable pub relational_operator_at : State → Read BinaryOperator
 relational_operator_at s = go tables reader (lifted relational_operator) s
 
 -- ---- products and sums
--- the factors behind a first one
-unfoldable pub factors_behind : ExpressionNode → State → Read ExpressionNode
-factors_behind e s = read_growth e (reader (further factors)) s
+-- the factors after a first one
+unfoldable pub factors_after : ExpressionNode → State → Read ExpressionNode
+factors_after e s = read_growth e (reader (further factors)) s
 
--- the factors of a product that starts at a place, behind a first one
+-- the factors of a product that starts at a place, after a first one
 unfoldable pub products_from : ℕ → ExpressionNode → State → Read ExpressionNode
 products_from start e s = turns (λ (left : ExpressionNode) (p : BinaryOperator × ExpressionNode) span.
     binary_of left p (record { start = start; end = span.end }))
@@ -101,37 +101,37 @@ summand_at s = cond (is_any additive_operators s)
     (additive_operator_at s >>= λ op s'. reader (of multiplicative_expression) s' >>= λ right s''. done (op, right) s'')
     (reader (of negated_expression) s >>= λ right s'. done (subtraction, right) s')
 
--- the summands behind a first one
-unfoldable pub summands_behind : ExpressionNode → State → Read ExpressionNode
-summands_behind e s = read_growth e (reader (further summands)) s
+-- the summands after a first one
+unfoldable pub summands_after : ExpressionNode → State → Read ExpressionNode
+summands_after e s = read_growth e (reader (further summands)) s
 
 -- ---- shifts and comparisons
 -- what makes an operand a shift or a sum
-unfoldable pub sum_behind : ExpressionNode → State → Read ExpressionNode
-sum_behind e s = read_growth e (reader (further sum_rest)) s
+unfoldable pub sum_after : ExpressionNode → State → Read ExpressionNode
+sum_after e s = read_growth e (reader (further sum_rest)) s
 
 -- what makes an operand a comparison
-unfoldable pub relation_behind : ExpressionNode → State → Read ExpressionNode
-relation_behind e s = read_growth e (reader (further relation_rest)) s
+unfoldable pub relation_after : ExpressionNode → State → Read ExpressionNode
+relation_after e s = read_growth e (reader (further relation_rest)) s
 
 -- ---- expressions
--- further operands behind one operator
-unfoldable pub bitwise_behind : ℕ → BinaryOperator → ExpressionNode → State → Read ExpressionNode
-bitwise_behind class operator e s =
+-- further operands after one operator
+unfoldable pub bitwise_after : ℕ → BinaryOperator → ExpressionNode → State → Read ExpressionNode
+bitwise_after class operator e s =
     turns (λ (left : ExpressionNode) (p : BinaryOperator × ExpressionNode) span. with_operand p left)
     (class ∷ []) (go tables reader (class means operator then symbol (of unary_expression))) 0 e s
 
--- further relational expressions behind one operator
-unfoldable pub logical_behind : ℕ → BinaryOperator → ExpressionNode → State → Read ExpressionNode
-logical_behind class operator e s =
+-- further relational expressions after one operator
+unfoldable pub logical_after : ℕ → BinaryOperator → ExpressionNode → State → Read ExpressionNode
+logical_after class operator e s =
     turns (λ (left : ExpressionNode) (p : BinaryOperator × ExpressionNode) span. with_operand p left)
     (class ∷ []) (go tables reader (class means operator then symbol (of relational_expression))) 0 e s
 
 -- `&&` or `||` and their operands, none too
 unfoldable pub logical_at : ExpressionNode → State → Read ExpressionNode
-logical_at e s = cond (is_at SymAndAnd s) (logical_behind SymAndAnd short_circuit_and e s)
-    (cond (is_at SymOrOr s) (logical_behind SymOrOr short_circuit_or e s) (done e s))
+logical_at e s = cond (is_at SymAndAnd s) (logical_after SymAndAnd short_circuit_and e s)
+    (cond (is_at SymOrOr s) (logical_after SymOrOr short_circuit_or e s) (done e s))
 
 -- what makes an operand an expression
-unfoldable pub expression_behind : ExpressionNode → State → Read ExpressionNode
-expression_behind e s = read_growth e (reader (further expression_rest)) s
+unfoldable pub expression_after : ExpressionNode → State → Read ExpressionNode
+expression_after e s = read_growth e (reader (further expression_rest)) s

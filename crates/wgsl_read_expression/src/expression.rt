@@ -8,7 +8,7 @@ ghost use Rattle.wgsl_lex_token.specs.View.{class_of_kind};
 ghost use Rattle.wgsl_tree_words.specs.View.{binary_operator_view};
 ghost use Rattle.wgsl_tree_expression.specs.View.{expression_node_view};
 ghost use Rattle.wgsl_read_cursor.specs.Reading.{Parses, ParsesNullable};
-ghost use Rattle.wgsl_read_expression.specs.Rules.{relation_behind, bitwise_behind, logical_behind, logical_at, expression_behind};
+ghost use Rattle.wgsl_read_expression.specs.Rules.{relation_after, bitwise_after, logical_after, logical_at, expression_after};
 
 use crate::nodes::join;
 use crate::operators::{is_at_operator, relational_operator};
@@ -37,7 +37,7 @@ fn parse_expression_rest(
     left: ExpressionNode,
 ) -> Result<ExpressionNode, Fault>
     ensures { ParsesNullable expression_node_view result tokens.old tokens.new
-        (expression_behind (expression_node_view left)) }
+        (expression_after (expression_node_view left)) }
 {
     if !is_at_operator(tokens) {
         return Ok(left);
@@ -74,7 +74,7 @@ fn parse_expression_rest(
     parse_logical_rest(alloc, tokens, relation)
 }
 
-/// The operands behind a first one with one bitwise operator between, none too.
+/// The operands after a first one with one bitwise operator between, none too.
 #[cycle(expression)]
 fn parse_bitwise_operands(
     alloc: Global,
@@ -83,7 +83,7 @@ fn parse_bitwise_operands(
     kind: TokenKind,
     operator: BinaryOperator,
 ) -> Result<ExpressionNode, Fault>
-    ensures { ParsesNullable expression_node_view result tokens.old tokens.new (bitwise_behind
+    ensures { ParsesNullable expression_node_view result tokens.old tokens.new (bitwise_after
         (class_of_kind kind) (binary_operator_view operator) (expression_node_view left)) }
 {
     let mut left = left;
@@ -102,7 +102,7 @@ fn parse_relation_rest(
     left: ExpressionNode,
 ) -> Result<ExpressionNode, Fault>
     ensures { ParsesNullable expression_node_view result tokens.old tokens.new
-        (relation_behind (expression_node_view left)) }
+        (relation_after (expression_node_view left)) }
 {
     let Some(operator) = relational_operator(tokens) else {
         return Ok(left);
@@ -111,7 +111,7 @@ fn parse_relation_rest(
     Ok(join(alloc, left, operator, right)?)
 }
 
-/// The operands of `&&` or of `||` behind a first one, none too.
+/// The operands of `&&` or of `||` after a first one, none too.
 #[cycle(expression)]
 fn parse_logical_rest(
     alloc: Global,
@@ -142,7 +142,7 @@ fn parse_logical_rest(
     Ok(left)
 }
 
-/// The operands behind a first one with one logical operator between, none too.
+/// The operands after a first one with one logical operator between, none too.
 #[cycle(expression)]
 fn parse_logical_operands(
     alloc: Global,
@@ -151,7 +151,7 @@ fn parse_logical_operands(
     kind: TokenKind,
     operator: BinaryOperator,
 ) -> Result<ExpressionNode, Fault>
-    ensures { ParsesNullable expression_node_view result tokens.old tokens.new (logical_behind
+    ensures { ParsesNullable expression_node_view result tokens.old tokens.new (logical_after
         (class_of_kind kind) (binary_operator_view operator) (expression_node_view left)) }
 {
     let mut left = left;

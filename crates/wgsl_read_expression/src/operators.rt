@@ -14,7 +14,7 @@ use wgsl_lex_token::kind::TokenKind;
 use wgsl_read_cursor::Cursor;
 use wgsl_tree_words::{BinaryOperator, UnaryOperator};
 
-/// Whether a token of a kind stands between two operands.
+/// Whether a token of a kind is between two operands.
 #[tactic(auto)]
 fn is_operator(kind: TokenKind) -> bool
     ensures { result ≡ is_among (class_of_kind kind) binary_operators }
@@ -53,7 +53,7 @@ pub fn is_at_operator(tokens: &Cursor) -> bool
     }
 }
 
-/// Takes an operator that stands before an operand, if it is next.
+/// Takes an operator that is before an operand, if it is next.
 pub fn unary_operator(tokens: &mut Cursor) -> Option<UnaryOperator>
     ensures { Takes unary_operator_view result tokens.old tokens.new unary_operators unary_operator_at }
 {

@@ -10,7 +10,7 @@ ghost use Rattle.wgsl_theory_grammar.specs.Reader.{reader};
 ghost use Rattle.wgsl_tree_expression.specs.View.{expression_view, expression_node_view};
 ghost use Rattle.wgsl_read_cursor.specs.Reading.{state, Parses, ParsesNullable};
 ghost use Rattle.wgsl_read_expression.specs.Growing.{read_growth};
-ghost use Rattle.wgsl_read_expression.specs.Rules.{primary_at, call_or_type_at, parenthesized_expression_at, component_behind};
+ghost use Rattle.wgsl_read_expression.specs.Rules.{primary_at, call_or_type_at, parenthesized_expression_at, component_after};
 
 use crate::arguments::parse_arguments;
 use crate::expression::parse_expression;
@@ -84,7 +84,7 @@ fn parse_parenthesized(alloc: Global, tokens: &mut Cursor) -> Result<Expression,
     Ok(parenthesized(expression))
 }
 
-/// The components behind a base, none too.
+/// The components after a base, none too.
 #[cycle(expression)]
 pub fn parse_components(
     alloc: Global,
@@ -108,7 +108,7 @@ fn begins_component(tokens: &Cursor) -> bool
     tokens.is_at(TokenKind::SymBracketLeft) || tokens.is_at(TokenKind::SymPeriod)
 }
 
-/// A component behind a base.
+/// A component after a base.
 #[cycle(expression)]
 fn parse_component(
     alloc: Global,
@@ -116,7 +116,7 @@ fn parse_component(
     base: ExpressionNode,
 ) -> Result<ExpressionNode, Fault>
     ensures { Parses expression_node_view result tokens.old tokens.new
-        (component_behind (expression_node_view base)) }
+        (component_after (expression_node_view base)) }
 {
     let start = base.span().start;
     if tokens.eat(TokenKind::SymBracketLeft) {

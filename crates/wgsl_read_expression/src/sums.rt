@@ -11,7 +11,7 @@ ghost use Rattle.wgsl_theory_grammar.specs.Reader.{reader};
 ghost use Rattle.wgsl_tree_words.specs.View.{binary_operator_view};
 ghost use Rattle.wgsl_tree_expression.specs.View.{expression_node_view};
 ghost use Rattle.wgsl_read_cursor.specs.Reading.{state, Parses, ParsesNullable};
-ghost use Rattle.wgsl_read_expression.specs.Rules.{factors_behind, products_from, summand_at, summands_behind, sum_behind};
+ghost use Rattle.wgsl_read_expression.specs.Rules.{factors_after, products_from, summand_at, summands_after, sum_after};
 
 use crate::nodes::{binary, join, unary};
 use crate::operators::{additive_operator, multiplicative_operator};
@@ -41,7 +41,7 @@ pub fn parse_sum_rest(
     left: ExpressionNode,
 ) -> Result<ExpressionNode, Fault>
     ensures { ParsesNullable expression_node_view result tokens.old tokens.new
-        (sum_behind (expression_node_view left)) }
+        (sum_after (expression_node_view left)) }
 {
     if tokens.eat(TokenKind::SymShiftLeft) {
         let right = parse_unary_expression(alloc, tokens)?;
@@ -55,7 +55,7 @@ pub fn parse_sum_rest(
     parse_summands(alloc, tokens, product)
 }
 
-/// The factors behind a first one, none too.
+/// The factors after a first one, none too.
 #[cycle(expression)]
 fn parse_factors(
     alloc: Global,
@@ -63,7 +63,7 @@ fn parse_factors(
     left: ExpressionNode,
 ) -> Result<ExpressionNode, Fault>
     ensures { ParsesNullable expression_node_view result tokens.old tokens.new
-        (factors_behind (expression_node_view left)) }
+        (factors_after (expression_node_view left)) }
 {
     let mut left = left;
     'factors: while let Some(operator) = multiplicative_operator(tokens) {
@@ -73,7 +73,7 @@ fn parse_factors(
     Ok(left)
 }
 
-/// The summands behind a first one, none too.
+/// The summands after a first one, none too.
 #[cycle(expression)]
 fn parse_summands(
     alloc: Global,
@@ -81,7 +81,7 @@ fn parse_summands(
     left: ExpressionNode,
 ) -> Result<ExpressionNode, Fault>
     ensures { ParsesNullable expression_node_view result tokens.old tokens.new
-        (summands_behind (expression_node_view left)) }
+        (summands_after (expression_node_view left)) }
 {
     let mut left = left;
     'summands: while begins_summand(tokens) {
@@ -144,14 +144,14 @@ fn parse_negated_expression(alloc: Global, tokens: &mut Cursor) -> Result<Expres
     parse_product_rest(alloc, tokens, start, left)
 }
 
-/// The place behind a place; the greatest place is behind itself.
+/// The place after a place; the greatest place is after itself.
 fn next_place(place: usize) -> usize
     ensures { result ≡ next_place place }
 {
     place.saturating_add(1)
 }
 
-/// The factors behind a first one, of a product that starts at a place.
+/// The factors after a first one, of a product that starts at a place.
 #[cycle(expression)]
 fn parse_product_rest(
     alloc: Global,

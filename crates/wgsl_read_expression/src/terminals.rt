@@ -27,7 +27,7 @@ pub fn parse_ident(tokens: &mut Cursor) -> Result<Ident, Fault>
     Ok(Ident::new(tokens.name()?))
 }
 
-/// A literal. `expected` is what could stand in its place.
+/// A literal. `expected` is what could be in its place.
 pub fn parse_literal(
     alloc: Global,
     tokens: &mut Cursor,

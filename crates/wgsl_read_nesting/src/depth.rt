@@ -5,7 +5,7 @@ ghost use Rattle.grammar.specs.Tokens as grammar;
 ghost use Rattle.grammar.specs.Endings.{Ending};
 ghost use Rattle.wgsl_model.specs.Tokens.TokenList.{IsTokenList};
 ghost use Rattle.wgsl_read_cursor.specs.Answers.{IsOutOfMemory};
-ghost use Rattle.wgsl_read_nesting.specs.Nesting.{deepest, nesting, open_behind, is_operand_end};
+ghost use Rattle.wgsl_read_nesting.specs.Nesting.{deepest, nesting, open_after, is_operand_end};
 ghost use Rattle.wgsl_read_nesting.specs.Effects.{token_classes};
 ghost use Rattle.wgsl_lex_token.specs.View.{class_of_kind};
 
@@ -17,9 +17,9 @@ use wgsl_lex_token::kind::TokenKind;
 use wgsl_lexer::TextTokens;
 
 /// Opens and closes what a token does.
-fn take(opened: &mut Opened, behind_operand: bool, kind: TokenKind) -> Result<(), AllocError>
+fn take(opened: &mut Opened, after_operand: bool, kind: TokenKind) -> Result<(), AllocError>
     ensures { IfOk result (λ _.
-        opened.new ≡ open_behind behind_operand (class_of_kind kind) opened.old) }
+        opened.new ≡ open_after after_operand (class_of_kind kind) opened.old) }
 {
     match effect_of(kind) {
         Effect::Opens => opened.push(Open::Bracket)?,
@@ -29,7 +29,7 @@ fn take(opened: &mut Opened, behind_operand: bool, kind: TokenKind) -> Result<()
         }
         Effect::GoesOn => {}
         Effect::MayPrefix => {
-            if behind_operand {
+            if after_operand {
                 opened.close_operators();
             } else {
                 opened.push(Open::Operator)?;
@@ -56,12 +56,12 @@ fn nesting_of(alloc: Global, tokens: TextTokens) -> Result<usize, AllocError>
 {
     let mut tokens = tokens;
     let mut opened = Opened::new(alloc);
-    let mut behind_operand = false;
+    let mut after_operand = false;
     let mut deepest = 0;
     'tokens: while let Some(kind) = take_kind(&mut tokens) {
         deepest = deepest.max(opened.depth());
-        take(&mut opened, behind_operand, kind)?;
-        behind_operand = is_operand_end(kind);
+        take(&mut opened, after_operand, kind)?;
+        after_operand = is_operand_end(kind);
     }
     Ok(deepest.max(opened.depth()))
 }

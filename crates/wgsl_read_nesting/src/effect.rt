@@ -51,7 +51,7 @@ pub(crate) fn effect_of(kind: TokenKind) -> Effect
     }
 }
 
-/// Whether an operand can end with the token, so that an operator behind it stands between two.
+/// Whether an operand can end with the token, so that an operator after it is between two.
 pub(crate) fn is_operand_end(kind: TokenKind) -> bool
     ensures { result ≡ is_operand_end (class_of_kind kind) }
 {

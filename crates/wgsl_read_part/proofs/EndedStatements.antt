@@ -12,27 +12,27 @@ use Rattle.wgsl_theory_grammar.specs.Factored.{FactoredSymbol.of, FactoredSymbol
 use Rattle.wgsl_theory_grammar.specs.Reader.{reader}
 use Rattle.wgsl_theory_grammar.specs.StatementRules.{plain_statement_at, ended_part_at, for_init_at, for_update_at}
 use Rattle.wgsl_theory_grammar.proofs.StatementEquations.{plain_statement_is, ended_part_is, for_init_is, for_update_is}
-use Rattle.wgsl_read_attribute.specs.Behind.{behind_attributes}
+use Rattle.wgsl_read_attribute.specs.After.{after_attributes}
 use Rattle.wgsl_read_simple.specs.Values.{word_at}
-use Rattle.wgsl_read_simple.proofs.Binding.{token_behind}
+use Rattle.wgsl_read_simple.proofs.Binding.{token_after}
 use Rattle.wgsl_read_part.specs.Plain.{ended, in_parentheses, unplaced_plain_at, assert_statement_at, ended_kinds_at, init_kinds_at, init_statement_at, update_statement_at}
 
--- where a statement stands
+-- where a statement is
 abbrev pub placed_from : State → Statement → State → Read StatementNode
 placed_from s x s' = done (placed_statement x (span_from (next_start s) s')) s'
 
--- ---- a `;` behind a part is one behind what is made of the part
+-- ---- a `;` after a part is one after what is made of the part
 pub ended_made : {A B : Type 0} (m : Read A) (f : A → B)
     → ((m >>= λ a s. take SymSemicolon s >>= λ t s'. done (a, t) s') >>= λ (p : A × Token) s. done p.0 s)
     >>= (λ a s. done (f a) s)
     ≡ ((m >>= λ a s. done (f a) s) >>= λ b s. take SymSemicolon s >>= λ t s'. done b s')
-ended_made m f = token_behind m (take SymSemicolon) (λ a s. done (f a) s)
+ended_made m f = token_after m (take SymSemicolon) (λ a s. done (f a) s)
     ∙ sym (bind_associates m (λ a s. done (f a) s) (λ b s. take SymSemicolon s >>= λ t s'. done b s'))
 
-pub ended_behind : (a : Attributes) (s : State) → behind_attributes statement a
-    (reader (further ended_part)) s ≡ ended (behind_attributes statement a ended_kinds_at) s
+pub ended_after : (a : Attributes) (s : State) → after_attributes statement a
+    (reader (further ended_part)) s ≡ ended (after_attributes statement a ended_kinds_at) s
 unfolding ended_part_at ended_kinds_at word_at assert_statement_at
-ended_behind a s = ap (λ m. m >>= λ u s'. done (statement a u) s') (ended_part_is s)
+ended_after a s = ap (λ m. m >>= λ u s'. done (statement a u) s') (ended_part_is s)
     ∙ ended_made (ended_kinds_at s) (statement a)
 
 -- ---- a statement that has no attributes

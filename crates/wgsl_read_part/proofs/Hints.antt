@@ -4,7 +4,7 @@ use Rattle.wgsl_read_part.specs.Plain.{break_if_rest_at, break_part_at, unplaced
 use Rattle.wgsl_read_part.specs.Clauses.{clause_head_at, maybe_colon_at}
 use Rattle.grammar.specs.States.{take}
 use Rattle.wgsl_read_part.proofs.Selectors.{selectors_parts, selectors_turn, selectors_by_parts, selectors_are}
-use Rattle.wgsl_read_part.proofs.EndedStatements.{plain_statement_parts, for_init_parts, for_update_parts, plain_statement_by_parts, ended_behind, for_init_by_parts, for_update_by_parts}
+use Rattle.wgsl_read_part.proofs.EndedStatements.{plain_statement_parts, for_init_parts, for_update_parts, plain_statement_by_parts, ended_after, for_init_by_parts, for_update_by_parts}
 use Rattle.wgsl_theory_grammar.specs.StatementRules.{case_selector_at, init_part_at, condition_part_at, update_part_at, assert_part_at}
 use Rattle.wgsl_read_part.specs.Heads.{for_header_at, condition_at, block_start_at, block_start_after_at, switch_head_at}
 use Rattle.wgsl_tree_statement.proofs.Views.{is_break, is_const_assert}
@@ -31,7 +31,7 @@ pub ruleset lemmas = (
   update_part_is,
   for_update_by_parts,
   plain_statement_by_parts,
-  ended_behind,
+  ended_after,
   assert_part_is,
   is_const_assert,
 )

@@ -3,7 +3,7 @@ use Rattle.std.proofs.Common.{◌≡◌, ◌∙◌, sym, ap, List, [], ◌∷◌
 use Rattle.grammar.specs.Grammar.{Grammar.empty, Grammar.symbol}
 use Rattle.grammar.specs.Notation.{◌then◌, ◌or◌, ◌▹◌}
 use Rattle.grammar.specs.States.{State, Read, Read.done, ◌>>=◌, is_at, is_any, take, go}
-use Rattle.grammar.proofs.Lists.{behind_none}
+use Rattle.grammar.proofs.Lists.{after_none}
 use Rattle.grammar.proofs.Binding.{bind_associates, bind_alike, bind_cond, pair_goes_on}
 use Rattle.wgsl_model.specs.Tokens.ClassTable.{SymComma}
 use Rattle.wgsl_model.specs.Trees.Statements.{CaseSelector}
@@ -15,24 +15,24 @@ use Rattle.wgsl_theory_grammar.specs.StatementRules.{selectors_at}
 use Rattle.wgsl_theory_grammar.proofs.StatementEquations.{selectors_is}
 use Rattle.wgsl_read_simple.proofs.Binding.{token_before}
 
--- a comma and more, or nothing, behind the selectors that were read so far
-unfoldable pub selectors_behind : List CaseSelector → State → Read (List CaseSelector)
-selectors_behind selected s = cond (is_at SymComma s)
+-- a comma and more, or nothing, after the selectors that were read so far
+unfoldable pub selectors_after : List CaseSelector → State → Read (List CaseSelector)
+selectors_after selected s = cond (is_at SymComma s)
     (take SymComma s >>= λ t s'. cond (is_any begin_case_selector s') (reader (further selectors) s'
     >>= λ more s''. done (selected ++ more) s'') (done selected s')) (done selected s)
 
 unfoldable pub selectors_turn : List CaseSelector → State → Read (List CaseSelector)
 selectors_turn selected s = cond (is_at SymComma s)
     (take SymComma s >>= λ t s'. cond (is_any begin_case_selector s') (reader (of case_selector) s'
-    >>= λ c s''. selectors_behind (selected ++ c ∷ []) s'') (done selected s')) (done selected s)
+    >>= λ c s''. selectors_after (selected ++ c ∷ []) s'') (done selected s')) (done selected s)
 
 -- as the grammar writes what follows a selector
 abbrev selectors_more : FactoredRule (List CaseSelector)
 selectors_more = SymComma ▹ (symbol (further selectors) or empty []) or empty []
 
 more_is : (l : List CaseSelector) (c : CaseSelector) (s : State)
-    → (go tables reader selectors_more s >>= λ more s'. done (l ++ (c ∷ more)) s') ≡ selectors_behind (l ++ (c ∷ [])) s
-unfolding selectors_behind
+    → (go tables reader selectors_more s >>= λ more s'. done (l ++ (c ∷ more)) s') ≡ selectors_after (l ++ (c ∷ [])) s
+unfolding selectors_after
 more_is l c s =
     bind_cond (is_at SymComma s) (go tables reader (SymComma ▹ (symbol (further selectors) or empty [])) s)
     (done [] s) (λ more s'. done (l ++ (c ∷ more)) s')
@@ -44,10 +44,10 @@ more_is l c s =
     ∙ ap (λ m. cond (is_any begin_case_selector s') m (done (l ++ (c ∷ [])) s')) (bind_alike (reader
     (further selectors) s') _ _ (λ more s'' h'. ap (λ xs. done xs s'') (sym (append_assoc l (c ∷ []) more))))))
 
--- behind some
+-- after some
 selectors_from : (l : List CaseSelector) (s : State)
     → (reader (further selectors) s >>= λ more s'. done (l ++ more) s')
-    ≡ (reader (of case_selector) s >>= λ c s'. selectors_behind (l ++ c ∷ []) s')
+    ≡ (reader (of case_selector) s >>= λ c s'. selectors_after (l ++ c ∷ []) s')
 unfolding selectors_at
 selectors_from l s =
     ap (λ m. m >>= λ more s'. done (l ++ more) s') (selectors_is s)
@@ -56,15 +56,15 @@ selectors_from l s =
     ∙ pair_goes_on (reader (of case_selector) s) (go tables reader selectors_more) (λ p s'. done (l ++ (p.0 ∷ p.1)) s')
     ∙ bind_alike (reader (of case_selector) s) _ _ (λ c s' h. more_is l c s')
 
-pub selectors_are : (selected : List CaseSelector) (s : State) → selectors_behind selected s ≡ selectors_turn selected s
-unfolding selectors_behind selectors_turn
+pub selectors_are : (selected : List CaseSelector) (s : State) → selectors_after selected s ≡ selectors_turn selected s
+unfolding selectors_after selectors_turn
 selectors_are l s = ap (λ m. cond (is_at SymComma s) m (done l s)) (bind_alike (take SymComma s) _ _
     (λ t s' h. ap (λ m. cond (is_any begin_case_selector s') m (done l s')) (selectors_from l s')))
 
--- the first, and those behind it
+-- the first, and those after it
 unfoldable pub selectors_parts : State → Read (List CaseSelector)
-selectors_parts s = reader (of case_selector) s >>= λ c s'. selectors_behind (c ∷ []) s'
+selectors_parts s = reader (of case_selector) s >>= λ c s'. selectors_after (c ∷ []) s'
 
 pub selectors_by_parts : (s : State) → reader (further selectors) s ≡ selectors_parts s
 unfolding selectors_parts
-selectors_by_parts s = behind_none (reader (further selectors) s) ∙ selectors_from [] s
+selectors_by_parts s = after_none (reader (further selectors) s) ∙ selectors_from [] s

@@ -1,4 +1,4 @@
--- The span of two tokens that stand one behind the other.
+-- The span of two tokens that are one after the other.
 use Rattle.std.proofs.Common.{◌≡◌, ◌∙◌, ℕ, Bool, true, false, eqb, sym, ap, ap₂, List, [], ◌∷◌, cond}
 use Rattle.grammar.specs.Tokens.{Token}
 use Rattle.grammar.specs.States.{State, Read.done, Stop, Stop.unexpected, Read.stop, is_at, take, next_start, first_of, after, span_from}

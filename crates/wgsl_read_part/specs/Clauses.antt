@@ -1,4 +1,4 @@
--- What stands before the block of a clause of `switch`, each part as a word of its own, which no
+-- What is before the block of a clause of `switch`, each part as a word of its own, which no
 -- computation opens.
 use Rattle.std.specs.Prelude.{List, [], ◌∷◌, Option, cond}
 use Rattle.grammar.specs.Tokens.{Token}

@@ -1,4 +1,4 @@
--- What stands before a block or between its attributes and its statements, each as a word of its
+-- What is before a block or between its attributes and its statements, each as a word of its
 -- own, which no computation opens.
 use Rattle.std.specs.Prelude.{ℕ, Option}
 use Rattle.grammar.specs.States.{State, Read, Read.done, ◌>>=◌, take}
@@ -10,19 +10,19 @@ use Rattle.wgsl_model.specs.Grammar.Symbols.{Symbol.expression}
 use Rattle.wgsl_theory_grammar.specs.Factored.{FactoredSymbol.of, FactoredSymbol.further, Further.attribute_list, Further.init_part, Further.condition_part, Further.update_part}
 use Rattle.wgsl_theory_grammar.specs.Reader.{reader}
 
--- a keyword, by its class, and the condition behind it
+-- a keyword, by its class, and the condition after it
 unfoldable pub condition_at : ℕ → State → Read ExpressionNode
 condition_at class s = take class s >>= λ t s'. reader (of expression) s'
 
--- attributes and the `{` behind them
+-- attributes and the `{` after them
 unfoldable pub block_start_at : State → Read Attributes
 block_start_at s = reader (further attribute_list) s >>= λ a s'. take SymBraceLeft s' >>= λ t s''. done a s''
 
--- a keyword, by its class, attributes, and the `{` behind them
+-- a keyword, by its class, attributes, and the `{` after them
 unfoldable pub block_start_after_at : ℕ → State → Read Attributes
 block_start_after_at class s = take class s >>= λ t s'. block_start_at s'
 
--- `switch`, its expression, the attributes of its body, and the `{` behind them
+-- `switch`, its expression, the attributes of its body, and the `{` after them
 unfoldable pub switch_head_at : State → Read (ExpressionNode × Attributes)
 switch_head_at s = take KwSwitch s
     >>= λ t s1. reader (of expression) s1 >>= λ e s2. block_start_at s2 >>= λ a s3. done (e, a) s3

@@ -1,4 +1,4 @@
--- What the statements that a `;` ends read, and what stands in the headers and bodies of loops,
+-- What the statements that a `;` ends read, and what is in the headers and bodies of loops,
 -- each part as a word of its own, which no computation opens.
 use Rattle.std.specs.Prelude.{ℕ, List, [], ◌∷◌, cond}
 use Rattle.grammar.specs.Grammar.{Grammar.symbol}
@@ -12,7 +12,7 @@ use Rattle.wgsl_model.specs.Grammar.Symbols.{Symbol.expression}
 use Rattle.wgsl_theory_grammar.specs.Factored.{FactoredSymbol.of, FactoredSymbol.further, Further.attribute_list, Further.returning_part, Further.local_part, Further.value_part, Further.simple_part, Further.assert_part, Further.parenthesized_statement, break_part}
 use Rattle.wgsl_theory_grammar.specs.Tables.{tables}
 use Rattle.wgsl_theory_grammar.specs.Reader.{reader}
-use Rattle.wgsl_read_attribute.specs.Behind.{behind_attributes}
+use Rattle.wgsl_read_attribute.specs.After.{after_attributes}
 use Rattle.wgsl_read_simple.specs.Values.{word_at}
 
 -- a part and the `;` that ends it
@@ -25,7 +25,7 @@ break_part_at s = go tables reader break_part s
 
 -- an assignment, increment or decrement that begins with `(`
 abbrev pub in_parentheses : State → Read Statement
-in_parentheses s = behind_attributes statement [] (reader (further parenthesized_statement)) s
+in_parentheses s = after_attributes statement [] (reader (further parenthesized_statement)) s
 
 -- a statement that has no attributes, with its `;`, without its place
 unfoldable pub unplaced_plain_at : State → Read Statement
@@ -63,7 +63,7 @@ ended_kinds =
 unfoldable pub ended_kinds_at : State → Read UnattributedStatement
 ended_kinds_at s = begun_part ended_kinds assert_statement_at s
 
--- a `break if` with its attributes, behind its `break`, and the `}` behind it
+-- a `break if` with its attributes, after its `break`, and the `}` after it
 unfoldable pub break_if_rest_at : Attributes → State → Read (Attributed BreakIfStatement)
 break_if_rest_at a s = go tables reader (KwIf ▹ symbol (of expression) ◃ SymSemicolon ◃ SymBraceRight
     gives λ e. with_attributes a (break_if_of e)) s
@@ -76,9 +76,9 @@ init_kinds_at s = cond (is_at KwVar s) (reader (further local_part) s)
 -- the same with its attributes, without its place
 unfoldable pub init_statement_at : State → Read Statement
 init_statement_at s = cond (is_at SymParenLeft s) (in_parentheses s)
-    (reader (further attribute_list) s >>= λ a s'. behind_attributes statement a init_kinds_at s')
+    (reader (further attribute_list) s >>= λ a s'. after_attributes statement a init_kinds_at s')
 
 -- what it does after each turn, without its place
 unfoldable pub update_statement_at : State → Read Statement
 update_statement_at s = cond (is_at SymParenLeft s) (in_parentheses s)
-    (reader (further attribute_list) s >>= λ a s'. behind_attributes statement a (reader (further simple_part)) s')
+    (reader (further attribute_list) s >>= λ a s'. after_attributes statement a (reader (further simple_part)) s')

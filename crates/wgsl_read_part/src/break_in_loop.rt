@@ -20,7 +20,7 @@ use wgsl_tree_attribute::Attributes;
 use wgsl_tree_simple::{BreakIfStatement, BreakStatement};
 use wgsl_tree_statement::{Statement, StatementNode};
 
-/// A `break` with its attributes, that stands there.
+/// A `break` with its attributes, that is there.
 pub fn break_node(
     alloc: Global,
     attributes: Attributes,
@@ -32,7 +32,7 @@ pub fn break_node(
     Spanned::new(alloc, Statement::Break(BreakStatement { attributes }), span)
 }
 
-/// A `break if` with its attributes, behind its `break`, and the `}` behind it.
+/// A `break if` with its attributes, after its `break`, and the `}` after it.
 pub fn parse_break_if_rest(
     alloc: Global,
     tokens: &mut Cursor,

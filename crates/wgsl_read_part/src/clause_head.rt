@@ -1,4 +1,4 @@
-//! What stands before the block of a clause of `switch`.
+//! What is before the block of a clause of `switch`.
 #![tactic(auto, unfolding(crate::proofs::Hints::definitions), using(crate::proofs::Hints::lemmas))]
 
 ghost use Rattle.std.specs.Prelude.{◌≡◌, ◌≤◌, Some, None, cond, length, map};
@@ -51,7 +51,7 @@ fn skip_colon(tokens: &mut Cursor)
     tokens.eat(TokenKind::SymColon);
 }
 
-/// Selectors with commas between, also behind the last.
+/// Selectors with commas between, also after the last.
 fn parse_selectors(alloc: Global, tokens: &mut Cursor) -> Result<Vec<CaseSelector>, Fault>
     ensures { Parses (λ selectors. map selector_view selectors.items) result tokens.old tokens.new
         (reader (further selectors)) }

@@ -10,7 +10,7 @@ ghost use Rattle.wgsl_tree_statement.specs.View.{statement_view, statement_node_
 ghost use Rattle.wgsl_theory_grammar.specs.Factored.{FactoredSymbol.of, FactoredSymbol.further, Further.init_part, Further.condition_part, Further.update_part};
 ghost use Rattle.wgsl_theory_grammar.specs.Reader.{reader};
 ghost use Rattle.wgsl_read_cursor.specs.Reading.{Parses};
-ghost use Rattle.wgsl_read_attribute.specs.Behind.{behind_attributes};
+ghost use Rattle.wgsl_read_attribute.specs.After.{after_attributes};
 ghost use Rattle.wgsl_read_part.specs.Heads.{for_header_at};
 ghost use Rattle.wgsl_read_part.specs.Plain.{init_statement_at, init_kinds_at, update_statement_at};
 
@@ -81,14 +81,14 @@ fn parse_init_statement(alloc: Global, tokens: &mut Cursor) -> Result<Statement,
     parse_init_kind(alloc, tokens, attributes)
 }
 
-/// What is done before the first turn, behind its attributes.
+/// What is done before the first turn, after its attributes.
 fn parse_init_kind(
     alloc: Global,
     tokens: &mut Cursor,
     attributes: Attributes,
 ) -> Result<Statement, Fault>
     ensures { Parses statement_view result tokens.old tokens.new
-        (behind_attributes statement (attributes_view attributes.items) init_kinds_at) }
+        (after_attributes statement (attributes_view attributes.items) init_kinds_at) }
 {
     if tokens.is_at(TokenKind::KwVar) {
         return parse_local_part(alloc, tokens, attributes);

@@ -1,4 +1,5 @@
-//! Reading the parts of statements that hold no block, from tokens: what stands before a block, and the statements that a `;` ends.
+//! Reading the parts of statements that hold no block, from tokens: what is before a block, and the
+//! statements that a `;` ends.
 #![tactic(auto)]
 
 mod break_in_loop;

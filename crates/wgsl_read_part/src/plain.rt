@@ -10,7 +10,7 @@ ghost use Rattle.wgsl_tree_statement.specs.View.{statement_view, statement_node_
 ghost use Rattle.wgsl_theory_grammar.specs.Factored.{FactoredSymbol.further, Further.plain_statement, Further.ended_part};
 ghost use Rattle.wgsl_theory_grammar.specs.Reader.{reader};
 ghost use Rattle.wgsl_read_cursor.specs.Reading.{state, Parses};
-ghost use Rattle.wgsl_read_attribute.specs.Behind.{behind_attributes};
+ghost use Rattle.wgsl_read_attribute.specs.After.{after_attributes};
 ghost use Rattle.wgsl_read_part.specs.Plain.{break_part_at, unplaced_plain_at, ended_kinds_at, begin_simple_part, assert_statement_at};
 
 use std::alloc::Global;
@@ -55,19 +55,19 @@ fn parse_unplaced_plain(alloc: Global, tokens: &mut Cursor) -> Result<Statement,
     Ok(statement)
 }
 
-/// `break` behind its attributes, with its `;`.
+/// `break` after its attributes, with its `;`.
 #[inline(never)]
 pub fn parse_break_part(tokens: &mut Cursor, attributes: Attributes) -> Result<Statement, Fault>
     ensures { Parses statement_view result tokens.old tokens.new
-        (behind_attributes statement (attributes_view attributes.items) break_part_at) }
+        (after_attributes statement (attributes_view attributes.items) break_part_at) }
 {
     tokens.expect(TokenKind::KwBreak)?;
     tokens.expect(TokenKind::SymSemicolon)?;
     Ok(Statement::Break(BreakStatement { attributes }))
 }
 
-/// A statement other than `break` that a `;` ends, behind its attributes, with its `;`.
-/// `expected` is what could stand in the place of a token that begins none.
+/// A statement other than `break` that a `;` ends, after its attributes, with its `;`.
+/// `expected` is what could be in the place of a token that begins none.
 #[inline(never)]
 pub fn parse_ended_part(
     alloc: Global,
@@ -75,7 +75,7 @@ pub fn parse_ended_part(
     attributes: Attributes,
     expected: Expected,
 ) -> Result<Statement, Fault>
-    ensures { Parses statement_view result tokens.old tokens.new (behind_attributes statement
+    ensures { Parses statement_view result tokens.old tokens.new (after_attributes statement
         (attributes_view attributes.items) (reader (further ended_part))) }
 {
     let statement = parse_ended_kind(alloc, tokens, attributes, expected)?;
@@ -83,7 +83,7 @@ pub fn parse_ended_part(
     Ok(statement)
 }
 
-/// A statement other than `break` that a `;` ends, behind its attributes, without its `;`.
+/// A statement other than `break` that a `;` ends, after its attributes, without its `;`.
 fn parse_ended_kind(
     alloc: Global,
     tokens: &mut Cursor,
@@ -91,7 +91,7 @@ fn parse_ended_kind(
     expected: Expected,
 ) -> Result<Statement, Fault>
     ensures { Parses statement_view result tokens.old tokens.new
-        (behind_attributes statement (attributes_view attributes.items) ended_kinds_at) }
+        (after_attributes statement (attributes_view attributes.items) ended_kinds_at) }
 {
     if tokens.is_at(TokenKind::KwReturn) {
         return parse_returning_part(alloc, tokens, attributes);
@@ -128,14 +128,14 @@ fn begins_simple_part(tokens: &Cursor) -> bool
         || tokens.is_at(TokenKind::ReservedWord)
 }
 
-/// A `const_assert` as a statement, behind its attributes, without its `;`.
+/// A `const_assert` as a statement, after its attributes, without its `;`.
 fn parse_assert_statement(
     alloc: Global,
     tokens: &mut Cursor,
     attributes: Attributes,
 ) -> Result<Statement, Fault>
     ensures { Parses statement_view result tokens.old tokens.new
-        (behind_attributes statement (attributes_view attributes.items) assert_statement_at) }
+        (after_attributes statement (attributes_view attributes.items) assert_statement_at) }
 {
     let expression = parse_assert_part(alloc, tokens)?;
     Ok(Statement::ConstAssert(ConstAssert {

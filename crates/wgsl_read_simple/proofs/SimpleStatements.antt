@@ -22,7 +22,7 @@ use Rattle.wgsl_read_simple.specs.SimpleStatements.{named_statement_at, maybe_te
 use Rattle.wgsl_read_simple.proofs.Binding.{pair_given, given_is}
 
 -- ---- what follows a left side
--- an assignment to it, or `++` or `--` behind it
+-- an assignment to it, or `++` or `--` after it
 unfoldable pub left_side_rest_parts : ExpressionNode → State → Read UnattributedStatement
 left_side_rest_parts left s = cond (is_any assignment_classes s) (assignment_operator_at s
     >>= λ operator s'. reader (of expression) s' >>= λ rhs s''. done (assignment_of left operator rhs) s'')

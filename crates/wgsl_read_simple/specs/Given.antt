@@ -1,4 +1,4 @@
--- What is read behind a value that it waits for.
+-- What is read after a value that it waits for.
 use Rattle.grammar.specs.States.{State, Read, Read.done, ◌>>=◌}
 
 -- what is read waits for a value, and gets it

@@ -28,7 +28,7 @@ maybe_template_list_at s = go tables reader (optional (symbol (of template_list)
 abbrev pub call_of_name : List ℕ → Option (List ExpressionNode) → List ExpressionNode → UnattributedStatement
 call_of_name name template es = call_statement_of (call_of (type_expression name (template_of template), es))
 
--- the rest of it behind the name
+-- the rest of it after the name
 unfoldable pub call_rest_at : List ℕ → State → Read UnattributedStatement
 call_rest_at name s = maybe_template_list_at s
     >>= λ template s'. reader (of arguments) s' >>= λ es s''. done (call_of_name name template es) s''

@@ -41,7 +41,7 @@ pub fn begins_name(tokens: &Cursor) -> bool
     tokens.is_at(TokenKind::Ident) || tokens.is_at(TokenKind::ReservedWord)
 }
 
-/// A left side: a name with its components, one behind `*` or `&`, or one in parentheses.
+/// A left side: a name with its components, one after `*` or `&`, or one in parentheses.
 #[cycle(left_side)]
 pub fn parse_lhs_expression(alloc: Global, tokens: &mut Cursor) -> Result<ExpressionNode, Fault>
     ensures { Parses expression_node_view result tokens.old tokens.new

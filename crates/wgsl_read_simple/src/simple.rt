@@ -12,7 +12,7 @@ ghost use Rattle.wgsl_tree_statement.specs.View.{statement_view};
 ghost use Rattle.wgsl_theory_grammar.specs.Factored.{FactoredSymbol.further, Further.left_side_rest, Further.simple_part, Further.phony_part, Further.parenthesized_statement};
 ghost use Rattle.wgsl_theory_grammar.specs.Reader.{reader};
 ghost use Rattle.wgsl_read_cursor.specs.Reading.{state, Parses, ParsesNullable};
-ghost use Rattle.wgsl_read_attribute.specs.Behind.{behind_attributes};
+ghost use Rattle.wgsl_read_attribute.specs.After.{after_attributes};
 ghost use Rattle.wgsl_read_simple.specs.Given.{given};
 ghost use Rattle.wgsl_read_simple.specs.SimpleStatements.{named_statement_at, maybe_template_list_at, call_rest_at, assignment_operator_at, underscore_left_side_at, assignment_classes};
 
@@ -35,7 +35,7 @@ use wgsl_tree_simple::{
 use wgsl_tree_statement::Statement;
 use wgsl_tree_words::AssignmentOperator;
 
-/// What begins a call, an assignment, an increment or a decrement behind attributes.
+/// What begins a call, an assignment, an increment or a decrement after attributes.
 const SIMPLE_PART: Expected = Expected::OneOf(&[
     TokenKind::SymAnd,
     TokenKind::SymAttr,
@@ -44,7 +44,7 @@ const SIMPLE_PART: Expected = Expected::OneOf(&[
     TokenKind::Ident,
 ]);
 
-/// What can stand behind a left side.
+/// What can be after a left side.
 const LEFT_SIDE_REST: Expected = Expected::OneOf(&[
     TokenKind::SymBracketLeft,
     TokenKind::SymEqual,
@@ -63,13 +63,14 @@ const LEFT_SIDE_REST: Expected = Expected::OneOf(&[
     TokenKind::SymShiftLeftAssign,
 ]);
 
-/// A call, an assignment, an increment or a decrement, behind its attributes. Its left side begins with no `(`.
+/// A call, an assignment, an increment or a decrement, after its attributes. Its left side begins
+/// with no `(`.
 pub fn parse_simple_part(
     alloc: Global,
     tokens: &mut Cursor,
     attributes: Attributes,
 ) -> Result<Statement, Fault>
-    ensures { Parses statement_view result tokens.old tokens.new (behind_attributes statement
+    ensures { Parses statement_view result tokens.old tokens.new (after_attributes statement
         (attributes_view attributes.items) (reader (further simple_part))) }
 {
     if begins_name(tokens) {
@@ -85,23 +86,24 @@ pub fn parse_simple_part(
     Err(tokens.refuse(SIMPLE_PART))
 }
 
-/// An assignment, an increment or a decrement whose left side begins with `(`. It has no attributes.
+/// An assignment, an increment or a decrement whose left side begins with `(`. It has no
+/// attributes.
 pub fn parse_parenthesized_statement(alloc: Global, tokens: &mut Cursor) -> Result<Statement, Fault>
     ensures { Parses statement_view result tokens.old tokens.new
-        (behind_attributes statement [] (reader (further parenthesized_statement))) }
+        (after_attributes statement [] (reader (further parenthesized_statement))) }
 {
     let left = parse_left_side_in_parentheses(alloc, tokens)?;
     parse_left_side_rest(alloc, tokens, left, Vec::new(alloc))
 }
 
-/// A statement that begins with a name, behind its attributes.
+/// A statement that begins with a name, after its attributes.
 fn parse_named_statement(
     alloc: Global,
     tokens: &mut Cursor,
     attributes: Attributes,
 ) -> Result<Statement, Fault>
     ensures { Parses statement_view result tokens.old tokens.new
-        (behind_attributes statement (attributes_view attributes.items) named_statement_at) }
+        (after_attributes statement (attributes_view attributes.items) named_statement_at) }
 {
     let start = tokens.start();
     let ident = parse_ident(tokens)?;
@@ -128,7 +130,7 @@ fn parse_call_rest(
     ident: Ident,
     attributes: Attributes,
 ) -> Result<Statement, Fault>
-    ensures { Parses statement_view result tokens.old tokens.new (behind_attributes statement
+    ensures { Parses statement_view result tokens.old tokens.new (after_attributes statement
         (attributes_view attributes.items) (call_rest_at (ident_name ident))) }
 {
     let template_args = parse_maybe_template_list(alloc, tokens)?;
@@ -167,7 +169,7 @@ fn parse_left_side_rest(
     attributes: Attributes,
 ) -> Result<Statement, Fault>
     ensures { Parses statement_view result tokens.old tokens.new
-        (behind_attributes statement (attributes_view attributes.items)
+        (after_attributes statement (attributes_view attributes.items)
         (given (expression_node_view left) (reader (further left_side_rest)))) }
 {
     if begins_assignment(tokens) {
@@ -250,13 +252,13 @@ fn parse_assignment_operator(tokens: &mut Cursor) -> Result<AssignmentOperator, 
     Ok(AssignmentOperator::ShiftLeftAssign)
 }
 
-/// An assignment to `_`, behind its attributes.
+/// An assignment to `_`, after its attributes.
 fn parse_phony_part(
     alloc: Global,
     tokens: &mut Cursor,
     attributes: Attributes,
 ) -> Result<Statement, Fault>
-    ensures { Parses statement_view result tokens.old tokens.new (behind_attributes statement
+    ensures { Parses statement_view result tokens.old tokens.new (after_attributes statement
         (attributes_view attributes.items) (reader (further phony_part))) }
 {
     let lhs = parse_underscore(alloc, tokens)?;

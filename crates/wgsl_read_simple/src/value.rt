@@ -14,7 +14,7 @@ ghost use Rattle.wgsl_theory_grammar.specs.Factored.{FactoredSymbol.further, Fur
 ghost use Rattle.wgsl_theory_grammar.specs.Tables.{begin_expressions};
 ghost use Rattle.wgsl_theory_grammar.specs.Reader.{reader};
 ghost use Rattle.wgsl_read_cursor.specs.Reading.{state, Parses, ParsesNullable};
-ghost use Rattle.wgsl_read_attribute.specs.Behind.{behind_attributes};
+ghost use Rattle.wgsl_read_attribute.specs.After.{after_attributes};
 ghost use Rattle.wgsl_read_simple.specs.Values.{maybe_expression_at, value_kind_at, word_at};
 
 use crate::{parse_initializer, parse_maybe_initializer, parse_typed_ident, parse_var_kind};
@@ -32,13 +32,13 @@ use wgsl_tree_statement::Statement;
 /// What begins the declaration of a value that does not vary.
 const VALUE_PART: Expected = Expected::OneOf(&[TokenKind::KwConst, TokenKind::KwLet]);
 
-/// `return` behind its attributes, with a value if there is one, without its `;`.
+/// `return` after its attributes, with a value if there is one, without its `;`.
 pub fn parse_returning_part(
     alloc: Global,
     tokens: &mut Cursor,
     attributes: Attributes,
 ) -> Result<Statement, Fault>
-    ensures { Parses statement_view result tokens.old tokens.new (behind_attributes statement
+    ensures { Parses statement_view result tokens.old tokens.new (after_attributes statement
         (attributes_view attributes.items) (reader (further returning_part))) }
 {
     tokens.expect(TokenKind::KwReturn)?;
@@ -85,13 +85,13 @@ fn begins_expression(tokens: &Cursor) -> bool
         || tokens.is_at(TokenKind::F16)
 }
 
-/// A `var` behind its attributes, without its `;`.
+/// A `var` after its attributes, without its `;`.
 pub fn parse_local_part(
     alloc: Global,
     tokens: &mut Cursor,
     attributes: Attributes,
 ) -> Result<Statement, Fault>
-    ensures { Parses statement_view result tokens.old tokens.new (behind_attributes statement
+    ensures { Parses statement_view result tokens.old tokens.new (after_attributes statement
         (attributes_view attributes.items) (reader (further local_part))) }
 {
     let kind = parse_var_kind(alloc, tokens)?;
@@ -106,13 +106,13 @@ pub fn parse_local_part(
     }))
 }
 
-/// A `let` or `const` behind its attributes, without its `;`.
+/// A `let` or `const` after its attributes, without its `;`.
 pub fn parse_value_part(
     alloc: Global,
     tokens: &mut Cursor,
     attributes: Attributes,
 ) -> Result<Statement, Fault>
-    ensures { Parses statement_view result tokens.old tokens.new (behind_attributes statement
+    ensures { Parses statement_view result tokens.old tokens.new (after_attributes statement
         (attributes_view attributes.items) (reader (further value_part))) }
 {
     let kind = parse_value_kind(tokens)?;
@@ -147,18 +147,18 @@ fn parse_value_kind(tokens: &mut Cursor) -> Result<DeclarationKind, Fault>
     Err(tokens.refuse(VALUE_PART))
 }
 
-/// `continue` behind its attributes, without its `;`.
+/// `continue` after its attributes, without its `;`.
 pub fn parse_continue(tokens: &mut Cursor, attributes: Attributes) -> Result<Statement, Fault>
-    ensures { Parses statement_view result tokens.old tokens.new (behind_attributes statement
+    ensures { Parses statement_view result tokens.old tokens.new (after_attributes statement
         (attributes_view attributes.items) (word_at class.KwContinue plain.continue_statement)) }
 {
     tokens.expect(TokenKind::KwContinue)?;
     Ok(Statement::Continue(ContinueStatement { attributes }))
 }
 
-/// `discard` behind its attributes, without its `;`.
+/// `discard` after its attributes, without its `;`.
 pub fn parse_discard(tokens: &mut Cursor, attributes: Attributes) -> Result<Statement, Fault>
-    ensures { Parses statement_view result tokens.old tokens.new (behind_attributes statement
+    ensures { Parses statement_view result tokens.old tokens.new (after_attributes statement
         (attributes_view attributes.items) (word_at class.KwDiscard plain.discard_statement)) }
 {
     tokens.expect(TokenKind::KwDiscard)?;

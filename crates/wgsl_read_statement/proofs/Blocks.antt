@@ -4,7 +4,7 @@ use Rattle.std.specs.declared.vec.Vec.{Vec}
 use Rattle.std.specs.declared.alloc.Global.{Global}
 use Rattle.grammar.specs.Grammar.{Grammar.symbol}
 use Rattle.grammar.specs.States.{State, Read, Read.done, ◌>>=◌, is_at, take, go}
-use Rattle.grammar.proofs.Lists.{until, behind_none}
+use Rattle.grammar.proofs.Lists.{until, after_none}
 use Rattle.wgsl_model.specs.Tokens.ClassTable.{SymBraceRight}
 use Rattle.wgsl_model.specs.Trees.Statements.{CompoundStatement, StatementNode, compound_of}
 use Rattle.wgsl_model.specs.Trees.Statements as plain
@@ -25,7 +25,7 @@ use Rattle.wgsl_tree_statement.proofs.Views.{is_compound, compound_statement_rol
 use Rattle.wgsl_read_part.specs.Heads.{block_start_at}
 use Rattle.wgsl_read_part.proofs.Heads.{block_start_first}
 
--- further statements, behind those that were read so far
+-- further statements, after those that were read so far
 unfoldable pub statements_from : List StatementNode → State → Read (List StatementNode)
 statements_from statements s = reader (further statement_rest) s >>= λ more s'. done (statements ++ more) s'
 
@@ -42,9 +42,9 @@ statements_are statements s = until (reader (further statement_rest))
 
 pub statement_rest_from : (s : State) → reader (further statement_rest) s ≡ statements_from [] s
 unfolding statements_from
-statement_rest_from s = behind_none (reader (further statement_rest) s)
+statement_rest_from s = after_none (reader (further statement_rest) s)
 
--- what stands before the statements, and the statements
+-- what is before the statements, and the statements
 abbrev pub compound_parts : State → Read CompoundStatement
 compound_parts s = block_start_at s
     >>= λ a s'. reader (further statement_rest) s' >>= λ statements s''. done (compound_of a statements) s''
@@ -60,7 +60,7 @@ unfolding block_part_at
 block_by_parts s = block_part_is s
 
 -- ---- what is made of what was read
--- statements, as they stand in a tree
+-- statements, as they are in a tree
 nodes_are : (nodes : List (Spanned Statement))
     → V.statement_nodes_view nodes ≡ plain.statements_of (map V.statement_node_view nodes)
 nodes_are [] = refl

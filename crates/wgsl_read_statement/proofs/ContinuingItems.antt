@@ -20,40 +20,40 @@ use Rattle.wgsl_theory_grammar.specs.StatementRules.{continuing_rest_at}
 use Rattle.wgsl_theory_grammar.proofs.StatementEquations.{continuing_rest_is}
 use Rattle.wgsl_read_attribute.proofs.Begun.{attributes_begun}
 use Rattle.wgsl_read_simple.specs.Given.{given}
-use Rattle.wgsl_read_simple.proofs.Binding.{given_is, put_before, behind, behind_more, behind_none}
+use Rattle.wgsl_read_simple.proofs.Binding.{given_is, put_before, following, after_more, after_none}
 use Rattle.wgsl_read_part.specs.Plain.{break_if_rest_at}
 use Rattle.wgsl_read_part.proofs.Items.{closed_is, with_item, item_is}
 use Rattle.wgsl_read_part.proofs.TokenSpans.{two_tokens}
-use Rattle.wgsl_read_statement.specs.Statements.{statement_behind_at}
+use Rattle.wgsl_read_statement.specs.Statements.{statement_after_at}
 use Rattle.wgsl_read_statement.proofs.Statements.{unbroken_is}
 use Rattle.wgsl_read_statement.proofs.StatementItems.{item_made, statement_item_is}
 
 abbrev ContinuingItems : Type 0
 ContinuingItems = List StatementNode × Option (Attributed BreakIfStatement)
 
--- further statements, behind those that were read so far
+-- further statements, after those that were read so far
 unfoldable pub continuing_items_from : List StatementNode → State → Read ContinuingItems
-continuing_items_from statements s = behind statements (reader (further continuing_rest) s)
+continuing_items_from statements s = following statements (reader (further continuing_rest) s)
 
 -- what follows a `break` whose attributes begin at a place: its `;` and more, or `if` and the end
-abbrev behind_break : List StatementNode → ℕ → Attributes → State → Read ContinuingItems
-behind_break statements start a s = cond (is_at SymSemicolon s)
+abbrev after_break : List StatementNode → ℕ → Attributes → State → Read ContinuingItems
+after_break statements start a s = cond (is_at SymSemicolon s)
     (take SymSemicolon s >>= λ t s'. continuing_items_from (statements
     ++ placed_statement (statement a UnattributedStatement.break_statement) (span_from start s') ∷ []) s')
     (break_if_rest_at a s >>= λ c s'. done (statements, Some c) s')
 
--- behind attributes that begin at a place: `break`, or another statement and more
-abbrev behind_continuing_attributes : List StatementNode → ℕ → Attributes → State → Read ContinuingItems
-behind_continuing_attributes statements start a s = cond (is_at KwBreak s)
-    (take KwBreak s >>= λ t s'. behind_break statements start a s')
-    (statement_behind_at a start s >>= λ n s'. continuing_items_from (statements ++ n ∷ []) s')
+-- after attributes that begin at a place: `break`, or another statement and more
+abbrev after_continuing_attributes : List StatementNode → ℕ → Attributes → State → Read ContinuingItems
+after_continuing_attributes statements start a s = cond (is_at KwBreak s)
+    (take KwBreak s >>= λ t s'. after_break statements start a s')
+    (statement_after_at a start s >>= λ n s'. continuing_items_from (statements ++ n ∷ []) s')
 
 unfoldable pub continuing_items_turn : List StatementNode → State → Read ContinuingItems
 continuing_items_turn statements s = cond (is_at SymBraceRight s)
     (take SymBraceRight s >>= λ t s'. done (statements, None) s')
     (cond (is_any (SymParenLeft ∷ SymSemicolon ∷ []) s)
     (reader (further plain_statement) s >>= λ n s'. continuing_items_from (statements ++ n ∷ []) s')
-    (reader (further attribute_list) s >>= λ a s'. behind_continuing_attributes statements (next_start s) a s'))
+    (reader (further attribute_list) s >>= λ a s'. after_continuing_attributes statements (next_start s) a s'))
 
 -- as the grammar writes them
 abbrev break_more : FactoredRule (Token → Attributes → ContinuingItems)
@@ -77,8 +77,8 @@ continuing_item = with_place unbroken then symbol (further continuing_rest) give
 abbrev plain_item : FactoredRule ContinuingItems
 plain_item = symbol (further plain_statement) then symbol (further continuing_rest) gives with_item
 
-abbrev behind_them : FactoredRule (Attributes → ContinuingItems)
-behind_them = continuing_break or continuing_item
+abbrev after_them : FactoredRule (Attributes → ContinuingItems)
+after_them = continuing_break or continuing_item
 
 -- ---- `break`
 break_more_is : (l : List StatementNode) (a : Attributes) (b : Token) (s s0 s1 : State)
@@ -94,9 +94,9 @@ break_more_is l a b s s0 s1 g h =
     (λ p s'. done (with_break p) s') (λ f s'. done (put_before l (f b a)) s')
     ∙ pair_goes_on (take SymSemicolon s1) (reader (further continuing_rest))
     (λ p s'. done (put_before l (with_break p b a)) s')
-    ∙ bind_alike (take SymSemicolon s1) _ _ (λ t s' k. behind_more l
+    ∙ bind_alike (take SymSemicolon s1) _ _ (λ t s' k. after_more l
     (node (begun_by a (record { start = b.start; end = t.end }))) (reader (further continuing_rest) s')
-    ∙ ap (λ (span : Span). behind (l ++ node span ∷ []) (reader (further continuing_rest) s'))
+    ∙ ap (λ (span : Span). following (l ++ node span ∷ []) (reader (further continuing_rest) s'))
     (ap (begun_by a) (two_tokens KwBreak SymSemicolon s0 b s1 t s' h k) ∙ attributes_begun s a s0 s' g))
 
 break_condition_is : (l : List StatementNode) (a : Attributes) (b : Token) (s : State)
@@ -114,7 +114,7 @@ break_condition_is l a b s =
 continuing_break_is : (l : List StatementNode) (a : Attributes) (s s0 : State)
     → reader (further attribute_list) s ≡ done a s0
     → (go tables reader continuing_break s0 >>= λ f s'. done (put_before l (f a)) s')
-    ≡ (take KwBreak s0 >>= λ t s'. behind_break l (next_start s) a s')
+    ≡ (take KwBreak s0 >>= λ t s'. after_break l (next_start s) a s')
 continuing_break_is l a s s0 g =
     ap (λ m. m >>= λ f s'. done (put_before l (f a)) s')
     (given_is (take KwBreak s0) (go tables reader (break_more or break_condition)))
@@ -130,8 +130,8 @@ continuing_break_is l a s s0 g =
 continuing_item_is : (l : List StatementNode) (a : Attributes) (s s' : State)
     → reader (further attribute_list) s ≡ done a s' → is_at KwBreak s' ≡ false
     → (go tables reader continuing_item s' >>= λ f s''. done (put_before l (f a)) s'')
-    ≡ (statement_behind_at a (next_start s) s' >>= λ n s''. continuing_items_from (l ++ n ∷ []) s'')
-unfolding statement_behind_at continuing_items_from
+    ≡ (statement_after_at a (next_start s) s' >>= λ n s''. continuing_items_from (l ++ n ∷ []) s'')
+unfolding statement_after_at continuing_items_from
 continuing_item_is l a s s' h n =
     statement_item_is l a s s' h (go tables reader unbroken s') (reader (further continuing_rest))
     ∙ ap (λ m. item_made l a s m (reader (further continuing_rest))) (unbroken_is s' n)
@@ -142,15 +142,15 @@ else_alike true x y y' h = refl
 else_alike false x y y' h = h refl
 
 attributed_is : (l : List StatementNode) (s : State)
-    → behind l (go tables reader (attributes_before taken_by behind_them) s)
-    ≡ (reader (further attribute_list) s >>= λ a s'. behind_continuing_attributes l (next_start s) a s')
+    → following l (go tables reader (attributes_before taken_by after_them) s)
+    ≡ (reader (further attribute_list) s >>= λ a s'. after_continuing_attributes l (next_start s) a s')
 attributed_is l s =
-    ap (behind l) (pair_goes_on (reader (further attribute_list) s) (go tables reader behind_them)
+    ap (following l) (pair_goes_on (reader (further attribute_list) s) (go tables reader after_them)
     (λ p s'. done (taken_by p.0 p.1) s'))
-    ∙ bind_associates (reader (further attribute_list) s) (λ a s'. go tables reader behind_them s'
+    ∙ bind_associates (reader (further attribute_list) s) (λ a s'. go tables reader after_them s'
     >>= λ f s''. done (taken_by a f) s'') (λ p s'. done (put_before l p) s')
     ∙ bind_alike (reader (further attribute_list) s) _ _ (λ a s' h. bind_associates (go tables
-    reader behind_them s') (λ f s''. done (taken_by a f) s'') (λ p s''. done (put_before l p) s'')
+    reader after_them s') (λ f s''. done (taken_by a f) s'') (λ p s''. done (put_before l p) s'')
     ∙ bind_cond (is_at KwBreak s') (go tables reader continuing_break s')
     (go tables reader continuing_item s') (λ f s''. done (put_before l (f a)) s'')
     ∙ ap (λ m. cond (is_at KwBreak s') m (go tables reader continuing_item s'
@@ -162,16 +162,16 @@ pub continuing_items_are : (statements : List StatementNode) (s : State)
 unfolding continuing_items_from continuing_items_turn continuing_rest_at
 continuing_items_are l s =
     let others : Read ContinuingItems = cond (is_any (SymParenLeft ∷ SymSemicolon ∷ []) s)
-    (go tables reader plain_item s) (go tables reader (attributes_before taken_by behind_them) s) in
-    ap (behind l) (continuing_rest_is s)
+    (go tables reader plain_item s) (go tables reader (attributes_before taken_by after_them) s) in
+    ap (following l) (continuing_rest_is s)
     ∙ bind_cond (is_at SymBraceRight s) (take SymBraceRight s >>= λ t s'. done ([], None) s') others
     (λ p s'. done (put_before l p) s')
     ∙ ap₂ (cond (is_at SymBraceRight s)) (closed_is l None (take SymBraceRight s))
     (bind_cond (is_any (SymParenLeft ∷ SymSemicolon ∷ []) s) (go tables reader plain_item s)
-    (go tables reader (attributes_before taken_by behind_them) s) (λ p s'. done (put_before l p) s')
+    (go tables reader (attributes_before taken_by after_them) s) (λ p s'. done (put_before l p) s')
     ∙ ap₂ (cond (is_any (SymParenLeft ∷ SymSemicolon ∷ []) s)) (item_is l
     (reader (further plain_statement) s) (reader (further continuing_rest))) (attributed_is l s))
 
 pub continuing_rest_from : (s : State) → reader (further continuing_rest) s ≡ continuing_items_from [] s
 unfolding continuing_items_from
-continuing_rest_from s = behind_none (reader (further continuing_rest) s)
+continuing_rest_from s = after_none (reader (further continuing_rest) s)

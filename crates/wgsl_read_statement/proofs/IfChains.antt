@@ -31,16 +31,16 @@ use Rattle.wgsl_tree_statement.specs.declared.statement.Statement.TheVariants as
 use Rattle.wgsl_tree_statement.specs.declared.statement.Statement.TheViews as layers
 use Rattle.wgsl_tree_statement.specs.View as V
 use Rattle.wgsl_tree_statement.proofs.Views.{is_if, if_statement_roll, if_clause_roll, else_if_clause_roll, else_clause_roll}
-use Rattle.wgsl_read_simple.proofs.Binding.{triple_goes_on, token_before, put_before, behind, behind_more, behind_none}
+use Rattle.wgsl_read_simple.proofs.Binding.{triple_goes_on, token_before, put_before, following, after_more, after_none}
 use Rattle.wgsl_read_part.specs.Heads.{condition_at}
 use Rattle.wgsl_read_part.proofs.Heads.{condition_first}
 
 abbrev Elses : Type 0
 Elses = List plain.ElseIfClause × Option plain.ElseClause
 
--- further clauses, behind those that were read so far
+-- further clauses, after those that were read so far
 unfoldable pub elses_from : List plain.ElseIfClause → State → Read Elses
-elses_from clauses s = behind clauses (reader (further else_rest) s)
+elses_from clauses s = following clauses (reader (further else_rest) s)
 
 -- `else if` and what follows, the last `else`, or nothing
 unfoldable pub elses_turn : List plain.ElseIfClause → State → Read Elses
@@ -61,7 +61,7 @@ abbrev last_else : FactoredRule Elses
 last_else = symbol (of compound_statement) gives λ b. ([], Some (plain.else_clause [] b))
 
 else_if_is : (clauses : List plain.ElseIfClause) (s : State)
-    → behind clauses (go tables reader (KwIf ▹ else_if_rest gives with_else_if) s)
+    → following clauses (go tables reader (KwIf ▹ else_if_rest gives with_else_if) s)
     ≡ (take KwIf s >>= λ u s1. reader (of expression) s1 >>= λ e s2. reader (of compound_statement) s2
     >>= λ b s3. elses_from (clauses ++ plain.else_if_clause [] e b ∷ []) s3)
 unfolding elses_from
@@ -73,10 +73,10 @@ else_if_is clauses s =
     (λ u s1 h. triple_goes_on (reader (of expression) s1) (reader (of compound_statement))
     (reader (further else_rest)) (λ p s'. done (put_before clauses (with_else_if p)) s')
     ∙ bind_alike (reader (of expression) s1) _ _ (λ e s2 h2. bind_alike (reader (of compound_statement) s2) _ _
-    (λ b s3 h3. behind_more clauses (plain.else_if_clause [] e b) (reader (further else_rest) s3))))
+    (λ b s3 h3. after_more clauses (plain.else_if_clause [] e b) (reader (further else_rest) s3))))
 
 last_else_is : (clauses : List plain.ElseIfClause) (s : State)
-    → behind clauses (go tables reader last_else s)
+    → following clauses (go tables reader last_else s)
     ≡ (reader (of compound_statement) s >>= λ b s'. done (clauses, Some (plain.else_clause [] b)) s')
 last_else_is clauses s =
     bind_associates (reader (of compound_statement) s)
@@ -88,7 +88,7 @@ last_else_is clauses s =
 pub elses_are : (clauses : List plain.ElseIfClause) (s : State) → elses_from clauses s ≡ elses_turn clauses s
 unfolding elses_from elses_turn else_rest_at
 elses_are clauses s =
-    ap (behind clauses) (else_rest_is s) ∙ bind_cond (is_at KwElse s)
+    ap (following clauses) (else_rest_is s) ∙ bind_cond (is_at KwElse s)
     (go tables reader (KwElse ▹ (KwIf ▹ else_if_rest gives with_else_if or last_else)) s)
     (done ([], None) s) (λ p s'. done (put_before clauses p) s')
     ∙ ap₂ (cond (is_at KwElse s))
@@ -101,7 +101,7 @@ elses_are clauses s =
 
 pub else_rest_from : (s : State) → reader (further else_rest) s ≡ elses_from [] s
 unfolding elses_from
-else_rest_from s = behind_none (reader (further else_rest) s)
+else_rest_from s = after_none (reader (further else_rest) s)
 
 -- ---- the statement, without its attributes
 abbrev pub if_parts : State → Read plain.UnattributedStatement

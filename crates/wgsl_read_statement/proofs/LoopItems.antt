@@ -13,33 +13,33 @@ use Rattle.wgsl_theory_grammar.specs.Tables.{tables}
 use Rattle.wgsl_theory_grammar.specs.Reader.{reader}
 use Rattle.wgsl_theory_grammar.specs.StatementRules.{loop_rest_at}
 use Rattle.wgsl_theory_grammar.proofs.StatementEquations.{loop_rest_is}
-use Rattle.wgsl_read_attribute.specs.Behind.{behind_attributes}
-use Rattle.wgsl_read_simple.proofs.Binding.{token_behind, put_before, behind, behind_none}
+use Rattle.wgsl_read_attribute.specs.After.{after_attributes}
+use Rattle.wgsl_read_simple.proofs.Binding.{token_after, put_before, following, after_none}
 use Rattle.wgsl_read_part.proofs.Items.{closed_is, with_item, item_is}
-use Rattle.wgsl_read_statement.specs.Statements.{statement_behind_at}
+use Rattle.wgsl_read_statement.specs.Statements.{statement_after_at}
 use Rattle.wgsl_read_statement.proofs.Statements.{part_written, statement_part_is}
 use Rattle.wgsl_read_statement.proofs.StatementItems.{item_made, statement_item_is}
 
 abbrev LoopItems : Type 0
 LoopItems = List StatementNode × Option ContinuingStatement
 
--- further statements, behind those that were read so far
+-- further statements, after those that were read so far
 unfoldable pub loop_items_from : List StatementNode → State → Read LoopItems
-loop_items_from statements s = behind statements (reader (further loop_rest) s)
+loop_items_from statements s = following statements (reader (further loop_rest) s)
 
--- behind attributes that begin at a place: `continuing` and the end, or a statement and more
-abbrev behind_loop_attributes : List StatementNode → ℕ → Attributes → State → Read LoopItems
-behind_loop_attributes statements start a s = cond (is_at KwContinuing s)
-    (behind_attributes continuing_statement_of a (reader (further continuing_part)) s
+-- after attributes that begin at a place: `continuing` and the end, or a statement and more
+abbrev after_loop_attributes : List StatementNode → ℕ → Attributes → State → Read LoopItems
+after_loop_attributes statements start a s = cond (is_at KwContinuing s)
+    (after_attributes continuing_statement_of a (reader (further continuing_part)) s
     >>= λ c s'. take SymBraceRight s' >>= λ t s''. done (statements, Some c) s'')
-    (statement_behind_at a start s >>= λ n s'. loop_items_from (statements ++ n ∷ []) s')
+    (statement_after_at a start s >>= λ n s'. loop_items_from (statements ++ n ∷ []) s')
 
 unfoldable pub loop_items_turn : List StatementNode → State → Read LoopItems
 loop_items_turn statements s = cond (is_at SymBraceRight s)
     (take SymBraceRight s >>= λ t s'. done (statements, None) s')
     (cond (is_any (SymParenLeft ∷ SymSemicolon ∷ []) s)
     (reader (further plain_statement) s >>= λ n s'. loop_items_from (statements ++ n ∷ []) s')
-    (reader (further attribute_list) s >>= λ a s'. behind_loop_attributes statements (next_start s) a s'))
+    (reader (further attribute_list) s >>= λ a s'. after_loop_attributes statements (next_start s) a s'))
 
 -- as the grammar writes them
 abbrev last_continuing : FactoredRule (Attributes → LoopItems)
@@ -51,17 +51,17 @@ loop_item = with_place part_written then symbol (further loop_rest) gives statem
 abbrev plain_item : FactoredRule LoopItems
 plain_item = symbol (further plain_statement) then symbol (further loop_rest) gives with_item
 
-abbrev behind_them : FactoredRule (Attributes → LoopItems)
-behind_them = last_continuing or loop_item
+abbrev after_them : FactoredRule (Attributes → LoopItems)
+after_them = last_continuing or loop_item
 
 last_continuing_is : (l : List StatementNode) (a : Attributes) (s : State)
     → (go tables reader last_continuing s >>= λ f s'. done (put_before l (f a)) s')
-    ≡ (behind_attributes continuing_statement_of a (reader (further continuing_part)) s
+    ≡ (after_attributes continuing_statement_of a (reader (further continuing_part)) s
     >>= λ c s'. take SymBraceRight s' >>= λ t s''. done (l, Some c) s'')
 last_continuing_is l a s =
     bind_associates (go tables reader (symbol (further continuing_part) ◃ SymBraceRight) s)
     (λ p s'. done (with_continuing p) s') (λ f s'. done (put_before l (f a)) s')
-    ∙ token_behind (reader (further continuing_part) s) (take SymBraceRight)
+    ∙ token_after (reader (further continuing_part) s) (take SymBraceRight)
     (λ p s'. done (put_before l (with_continuing p a)) s')
     ∙ bind_alike (reader (further continuing_part) s) _ _ (λ p s' h. bind_alike (take SymBraceRight s')
     _ _ (λ t s'' h'. ap (λ xs. done (xs, Some (continuing_statement_of a p)) s'') (append-nil l)))
@@ -71,22 +71,22 @@ last_continuing_is l a s =
 loop_item_is : (l : List StatementNode) (a : Attributes) (s s' : State)
     → reader (further attribute_list) s ≡ done a s'
     → (go tables reader loop_item s' >>= λ f s''. done (put_before l (f a)) s'')
-    ≡ (statement_behind_at a (next_start s) s' >>= λ n s''. loop_items_from (l ++ n ∷ []) s'')
-unfolding statement_behind_at loop_items_from
+    ≡ (statement_after_at a (next_start s) s' >>= λ n s''. loop_items_from (l ++ n ∷ []) s'')
+unfolding statement_after_at loop_items_from
 loop_item_is l a s s' h =
     statement_item_is l a s s' h (go tables reader part_written s') (reader (further loop_rest))
     ∙ ap (λ m. item_made l a s m (reader (further loop_rest))) (statement_part_is s')
 
 attributed_is : (l : List StatementNode) (s : State)
-    → behind l (go tables reader (attributes_before taken_by behind_them) s)
-    ≡ (reader (further attribute_list) s >>= λ a s'. behind_loop_attributes l (next_start s) a s')
+    → following l (go tables reader (attributes_before taken_by after_them) s)
+    ≡ (reader (further attribute_list) s >>= λ a s'. after_loop_attributes l (next_start s) a s')
 attributed_is l s =
-    ap (behind l) (pair_goes_on (reader (further attribute_list) s) (go tables reader behind_them)
+    ap (following l) (pair_goes_on (reader (further attribute_list) s) (go tables reader after_them)
     (λ p s'. done (taken_by p.0 p.1) s'))
-    ∙ bind_associates (reader (further attribute_list) s) (λ a s'. go tables reader behind_them s'
+    ∙ bind_associates (reader (further attribute_list) s) (λ a s'. go tables reader after_them s'
     >>= λ f s''. done (taken_by a f) s'') (λ p s'. done (put_before l p) s')
     ∙ bind_alike (reader (further attribute_list) s) _ _ (λ a s' h. bind_associates (go tables
-    reader behind_them s') (λ f s''. done (taken_by a f) s'') (λ p s''. done (put_before l p) s'')
+    reader after_them s') (λ f s''. done (taken_by a f) s'') (λ p s''. done (put_before l p) s'')
     ∙ bind_cond (is_at KwContinuing s') (go tables reader last_continuing s')
     (go tables reader loop_item s') (λ f s''. done (put_before l (f a)) s'')
     ∙ ap₂ (cond (is_at KwContinuing s')) (last_continuing_is l a s') (loop_item_is l a s s' h))
@@ -96,16 +96,16 @@ pub loop_items_are : (statements : List StatementNode) (s : State)
 unfolding loop_items_from loop_items_turn loop_rest_at
 loop_items_are l s =
     let others : Read LoopItems = cond (is_any (SymParenLeft ∷ SymSemicolon ∷ []) s)
-    (go tables reader plain_item s) (go tables reader (attributes_before taken_by behind_them) s) in
-    ap (behind l) (loop_rest_is s)
+    (go tables reader plain_item s) (go tables reader (attributes_before taken_by after_them) s) in
+    ap (following l) (loop_rest_is s)
     ∙ bind_cond (is_at SymBraceRight s) (take SymBraceRight s >>= λ t s'. done ([], None) s') others
     (λ p s'. done (put_before l p) s')
     ∙ ap₂ (cond (is_at SymBraceRight s)) (closed_is l None (take SymBraceRight s))
     (bind_cond (is_any (SymParenLeft ∷ SymSemicolon ∷ []) s) (go tables reader plain_item s)
-    (go tables reader (attributes_before taken_by behind_them) s) (λ p s'. done (put_before l p) s')
+    (go tables reader (attributes_before taken_by after_them) s) (λ p s'. done (put_before l p) s')
     ∙ ap₂ (cond (is_any (SymParenLeft ∷ SymSemicolon ∷ []) s))
     (item_is l (reader (further plain_statement) s) (reader (further loop_rest))) (attributed_is l s))
 
 pub loop_rest_from : (s : State) → reader (further loop_rest) s ≡ loop_items_from [] s
 unfolding loop_items_from
-loop_rest_from s = behind_none (reader (further loop_rest) s)
+loop_rest_from s = after_none (reader (further loop_rest) s)

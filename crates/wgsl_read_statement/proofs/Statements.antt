@@ -22,7 +22,7 @@ use Rattle.wgsl_read_expression.proofs.Choices.{not_taken}
 use Rattle.wgsl_read_attribute.proofs.Classes.{alone, other_class, not_one, none_among}
 use Rattle.wgsl_read_simple.specs.Values.{word_at}
 use Rattle.wgsl_read_part.specs.Plain.{break_part_at, begun_part, ended_kinds, ended_kinds_at, assert_statement_at}
-use Rattle.wgsl_read_statement.specs.Statements.{begin_braced_part, statement_part_at, statement_behind_at}
+use Rattle.wgsl_read_statement.specs.Statements.{begin_braced_part, statement_part_at, statement_after_at}
 
 -- ---- what is refused
 -- a part and its `;`, as the grammar writes it
@@ -71,7 +71,7 @@ abbrev begin_within : {A : Type 0} → List (List ℕ × (State → Read A)) →
 begin_within [] classes = true
 begin_within (p ∷ parts) classes = cond (subset p.0 classes) (begin_within parts classes) false
 
--- where none of some parts is begun, the last one stands
+-- where none of some parts is begun, the last one is
 none_begun : {A : Type 0} (parts : List (List ℕ × (State → Read A))) (last : State → Read A)
     (classes : List ℕ) (s : State) → begin_within parts classes ≡ true → is_any classes s ≡ false
     → begun_part parts last s ≡ last s
@@ -90,7 +90,7 @@ ended_refused : (s : State) → is_any begin_ended_part s ≡ false → reader (
 unfolding ended_part_at ended_kinds_at word_at assert_statement_at
 ended_refused s n = ended_part_is s ∙ ap with_semicolon (kinds_refused s n) ∙ ended_stops s.end s.rest
 
--- ---- a statement behind its attributes
+-- ---- a statement after its attributes
 -- as the grammar writes it
 abbrev pub part_written : FactoredRule UnattributedStatement
 part_written = symbol (further braced_part) or (symbol (further ended_part) or break_part)
@@ -143,10 +143,10 @@ unbroken_is s n = sym (cond_no {A = Read UnattributedStatement} (is_at KwBreak s
 -- ---- a statement
 unfoldable pub statement_parts : State → Read StatementNode
 statement_parts s = cond (is_any (SymParenLeft ∷ SymSemicolon ∷ []) s) (reader (further plain_statement) s)
-    (reader (further attribute_list) s >>= λ a s'. statement_behind_at a (next_start s) s')
+    (reader (further attribute_list) s >>= λ a s'. statement_after_at a (next_start s) s')
 
 pub statement_by_parts : (s : State) → reader (of Symbol.statement) s ≡ statement_parts s
-unfolding statement_at statement_parts statement_behind_at
+unfolding statement_at statement_parts statement_after_at
 statement_by_parts s =
     let place : Statement → State → Read StatementNode =
     λ x s'. done (placed_statement x (span_from (next_start s) s')) s' in

@@ -43,14 +43,14 @@ use Rattle.wgsl_read_statement.specs.Switches.{clauses_at}
 abbrev Clause : Type 0
 Clause = List plain.CaseSelector × plain.CompoundStatement
 
--- attributes, what stands before the block, and the block
+-- attributes, what is before the block, and the block
 abbrev pub switch_clause_parts : State → Read plain.SwitchClause
 switch_clause_parts s = reader (further attribute_list) s >>= λ a s1. clause_head_at s1
     >>= λ l s2. reader (of compound_statement) s2 >>= λ b s3. done (clause_of a (l, b)) s3
 
--- the block behind what stands before it
-abbrev block_behind : List plain.CaseSelector → State → Read Clause
-block_behind l s = reader (of compound_statement) s >>= λ b s'. done (l, b) s'
+-- the block after what is before it
+abbrev block_after : List plain.CaseSelector → State → Read Clause
+block_after l s = reader (of compound_statement) s >>= λ b s'. done (l, b) s'
 
 abbrev default_only : List plain.CaseSelector
 default_only = plain.CaseSelector.default_selector ∷ []
@@ -63,8 +63,8 @@ abbrev default_head : State → Read (List plain.CaseSelector)
 default_head s = take KwDefault s >>= λ t s1. maybe_colon_at s1 >>= λ o s2. done default_only s2
 
 -- as the grammar writes it
-abbrev behind_colon : FactoredRule (Option Token × plain.CompoundStatement)
-behind_colon = optional (one_token SymColon) then symbol (of compound_statement)
+abbrev after_colon : FactoredRule (Option Token × plain.CompoundStatement)
+after_colon = optional (one_token SymColon) then symbol (of compound_statement)
 
 abbrev case_made : List plain.CaseSelector × (Option Token × plain.CompoundStatement) → State → Read Clause
 case_made p s = done (p.0, p.1.1) s
@@ -73,32 +73,32 @@ abbrev default_made : Option Token × plain.CompoundStatement → State → Read
 default_made p s = done (default_only, p.1) s
 
 case_is : (s : State)
-    → (go tables reader (KwCase ▹ symbol (further selectors) then behind_colon) s >>= case_made)
-    ≡ (case_head s >>= block_behind)
+    → (go tables reader (KwCase ▹ symbol (further selectors) then after_colon) s >>= case_made)
+    ≡ (case_head s >>= block_after)
 unfolding maybe_colon_at
 case_is s =
-    token_before (take KwCase s) (go tables reader (symbol (further selectors) then behind_colon)) case_made
+    token_before (take KwCase s) (go tables reader (symbol (further selectors) then after_colon)) case_made
     ∙ bind_alike (take KwCase s) _ _ (λ t s1 h. triple_goes_on (reader (further selectors) s1)
     maybe_colon_at (reader (of compound_statement)) case_made)
-    ∙ sym (bind_associates (take KwCase s) _ block_behind
-    ∙ bind_alike (take KwCase s) _ _ (λ t s1 h. bind_associates (reader (further selectors) s1) _ block_behind
-    ∙ bind_alike (reader (further selectors) s1) _ _ (λ l s2 h2. bind_associates (maybe_colon_at s2) _ block_behind)))
+    ∙ sym (bind_associates (take KwCase s) _ block_after
+    ∙ bind_alike (take KwCase s) _ _ (λ t s1 h. bind_associates (reader (further selectors) s1) _ block_after
+    ∙ bind_alike (reader (further selectors) s1) _ _ (λ l s2 h2. bind_associates (maybe_colon_at s2) _ block_after)))
 
 default_is : (s : State)
-    → (go tables reader (KwDefault ▹ behind_colon) s >>= default_made) ≡ (default_head s >>= block_behind)
+    → (go tables reader (KwDefault ▹ after_colon) s >>= default_made) ≡ (default_head s >>= block_after)
 unfolding maybe_colon_at
 default_is s =
-    token_before (take KwDefault s) (go tables reader behind_colon) default_made
+    token_before (take KwDefault s) (go tables reader after_colon) default_made
     ∙ bind_alike (take KwDefault s) _ _
     (λ t s1 h. pair_goes_on (maybe_colon_at s1) (reader (of compound_statement)) default_made)
-    ∙ sym (bind_associates (take KwDefault s) _ block_behind
-    ∙ bind_alike (take KwDefault s) _ _ (λ t s1 h. bind_associates (maybe_colon_at s1) _ block_behind))
+    ∙ sym (bind_associates (take KwDefault s) _ block_after
+    ∙ bind_alike (take KwDefault s) _ _ (λ t s1 h. bind_associates (maybe_colon_at s1) _ block_after))
 
-clause_part_by_parts : (s : State) → reader (further clause_part) s ≡ (clause_head_at s >>= block_behind)
+clause_part_by_parts : (s : State) → reader (further clause_part) s ≡ (clause_head_at s >>= block_after)
 unfolding clause_part_at clause_head_at
 clause_part_by_parts s =
     clause_part_is s ∙ ap₂ (cond (is_at KwCase s)) (case_is s) (default_is s)
-    ∙ sym (bind_cond (is_at KwCase s) (case_head s) (default_head s) block_behind)
+    ∙ sym (bind_cond (is_at KwCase s) (case_head s) (default_head s) block_after)
 
 pub switch_clause_by_parts : (s : State) → reader (of switch_clause) s ≡ switch_clause_parts s
 unfolding switch_clause_at
@@ -108,12 +108,12 @@ switch_clause_by_parts s =
     (λ p s'. done (clause_of p.0 p.1) s')
     ∙ bind_alike (reader (further attribute_list) s) _ _
     (λ a s1 h. ap (λ m. m >>= λ p s'. done (clause_of a p) s') (clause_part_by_parts s1)
-    ∙ bind_associates (clause_head_at s1) block_behind (λ p s'. done (clause_of a p) s')
+    ∙ bind_associates (clause_head_at s1) block_after (λ p s'. done (clause_of a p) s')
     ∙ bind_alike (clause_head_at s1) _ _ (λ l s2 h2. bind_associates (reader (of compound_statement) s2)
     (λ b s'. done (l, b) s') (λ p s'. done (clause_of a p) s')))
 
 -- ---- clauses
--- further clauses, behind those that were read so far
+-- further clauses, after those that were read so far
 unfoldable pub clauses_from : List plain.SwitchClause → State → Read (List plain.SwitchClause)
 clauses_from clauses s = reader (further clause_rest) s >>= λ more s'. done (clauses ++ more) s'
 
@@ -126,7 +126,7 @@ unfolding clauses_from clauses_turn clause_rest_at
 clauses_are clauses s = until (reader (further clause_rest))
     (reader (of switch_clause)) SymBraceRight clause_rest_is clauses s
 
--- the first, and those behind it
+-- the first, and those after it
 unfoldable pub clauses_parts : State → Read (List plain.SwitchClause)
 clauses_parts s = reader (of switch_clause) s >>= λ c s'. clauses_from (c ∷ []) s'
 

@@ -6,7 +6,7 @@ use Rattle.wgsl_model.specs.Grammar.Symbols.{Symbol.switch_clause}
 use Rattle.wgsl_theory_grammar.specs.Factored.{FactoredSymbol.of, FactoredSymbol.further, Further.clause_rest}
 use Rattle.wgsl_theory_grammar.specs.Reader.{reader}
 
--- the clauses, one at least, and the `}` behind them
+-- the clauses, one at least, and the `}` after them
 unfoldable pub clauses_at : State → Read (List SwitchClause)
 clauses_at s = reader (of switch_clause) s
     >>= λ clause s'. reader (further clause_rest) s' >>= λ clauses s''. done (clause ∷ clauses) s''

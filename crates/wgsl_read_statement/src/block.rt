@@ -9,7 +9,7 @@ ghost use Rattle.wgsl_tree_statement.specs.View.{statement_view, statement_node_
 ghost use Rattle.wgsl_theory_grammar.specs.Factored.{FactoredSymbol.of, FactoredSymbol.further, Further.block_part, Further.statement_rest};
 ghost use Rattle.wgsl_theory_grammar.specs.Reader.{reader};
 ghost use Rattle.wgsl_read_cursor.specs.Reading.{Parses};
-ghost use Rattle.wgsl_read_attribute.specs.Behind.{behind_attributes};
+ghost use Rattle.wgsl_read_attribute.specs.After.{after_attributes};
 
 use crate::statement::parse_statement;
 use std::alloc::Global;
@@ -37,7 +37,7 @@ pub fn parse_compound_statement(
     })
 }
 
-/// A block as a statement, behind its attributes.
+/// A block as a statement, after its attributes.
 #[tactic(auto, using(crate::proofs::Blocks::blocks))]
 #[inline(never)]
 #[cycle(statement)]
@@ -46,7 +46,7 @@ pub fn parse_block_part(
     tokens: &mut Cursor,
     attributes: Attributes,
 ) -> Result<Statement, Fault>
-    ensures { Parses statement_view result tokens.old tokens.new (behind_attributes statement
+    ensures { Parses statement_view result tokens.old tokens.new (after_attributes statement
         (attributes_view attributes.items) (reader (further block_part))) }
 {
     tokens.expect(TokenKind::SymBraceLeft)?;
@@ -57,7 +57,7 @@ pub fn parse_block_part(
     }))
 }
 
-/// Statements up to the `}` behind them.
+/// Statements up to the `}` after them.
 #[cycle(statement)]
 fn parse_statement_rest(alloc: Global, tokens: &mut Cursor) -> Result<Vec<StatementNode>, Fault>
     ensures { Parses

@@ -8,7 +8,7 @@ ghost use Rattle.wgsl_tree_statement.specs.View.{statement_view, else_if_clause_
 ghost use Rattle.wgsl_theory_grammar.specs.Factored.{FactoredSymbol.further, Further.if_part, Further.else_rest};
 ghost use Rattle.wgsl_theory_grammar.specs.Reader.{reader};
 ghost use Rattle.wgsl_read_cursor.specs.Reading.{Parses, ParsesNullable};
-ghost use Rattle.wgsl_read_attribute.specs.Behind.{behind_attributes};
+ghost use Rattle.wgsl_read_attribute.specs.After.{after_attributes};
 
 use crate::block::parse_compound_statement;
 use std::alloc::Global;
@@ -19,7 +19,7 @@ use wgsl_read_part::parse_condition;
 use wgsl_tree_attribute::Attributes;
 use wgsl_tree_statement::{ElseClause, ElseIfClause, IfClause, IfStatement, Statement};
 
-/// An `if` with all of its clauses, behind its attributes.
+/// An `if` with all of its clauses, after its attributes.
 #[tactic(auto, using(crate::proofs::IfChains::ifs))]
 #[inline(never)]
 #[cycle(statement)]
@@ -28,7 +28,7 @@ pub fn parse_if_part(
     tokens: &mut Cursor,
     attributes: Attributes,
 ) -> Result<Statement, Fault>
-    ensures { Parses statement_view result tokens.old tokens.new (behind_attributes statement
+    ensures { Parses statement_view result tokens.old tokens.new (after_attributes statement
         (attributes_view attributes.items) (reader (further if_part))) }
 {
     let expression = parse_condition(alloc, tokens, TokenKind::KwIf)?;
@@ -42,7 +42,7 @@ pub fn parse_if_part(
     }))
 }
 
-/// The clauses behind the first.
+/// The clauses after the first.
 #[inline(never)]
 #[cycle(statement)]
 fn parse_else_rest(

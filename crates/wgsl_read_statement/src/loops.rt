@@ -9,10 +9,10 @@ ghost use Rattle.wgsl_tree_statement.specs.View.{statement_view, statement_node_
 ghost use Rattle.wgsl_theory_grammar.specs.Factored.{FactoredSymbol.further, Further.loop_part, Further.loop_rest, Further.continuing_part, Further.continuing_rest, Further.while_part, Further.for_part};
 ghost use Rattle.wgsl_theory_grammar.specs.Reader.{reader};
 ghost use Rattle.wgsl_read_cursor.specs.Reading.{Parses};
-ghost use Rattle.wgsl_read_attribute.specs.Behind.{behind_attributes};
+ghost use Rattle.wgsl_read_attribute.specs.After.{after_attributes};
 
 use crate::block::parse_compound_statement;
-use crate::statement::parse_statement_behind;
+use crate::statement::parse_statement_after;
 use std::alloc::Global;
 use wgsl_lex_token::kind::TokenKind;
 use wgsl_read_attribute::parse_attributes;
@@ -28,7 +28,7 @@ use wgsl_tree_statement::{
     WhileStatement,
 };
 
-/// A `loop`, behind its attributes.
+/// A `loop`, after its attributes.
 #[tactic(auto, using(crate::proofs::LoopParts::loops))]
 #[inline(never)]
 #[cycle(statement)]
@@ -37,7 +37,7 @@ pub fn parse_loop_part(
     tokens: &mut Cursor,
     attributes: Attributes,
 ) -> Result<Statement, Fault>
-    ensures { Parses statement_view result tokens.old tokens.new (behind_attributes statement
+    ensures { Parses statement_view result tokens.old tokens.new (after_attributes statement
         (attributes_view attributes.items) (reader (further loop_part))) }
 {
     let body_attributes = parse_block_start_after(alloc, tokens, TokenKind::KwLoop)?;
@@ -52,7 +52,7 @@ pub fn parse_loop_part(
     }))
 }
 
-/// The statements of a `loop`, its `continuing` if there is one, and the `}` behind them.
+/// The statements of a `loop`, its `continuing` if there is one, and the `}` after them.
 #[cycle(statement)]
 fn parse_loop_rest(
     alloc: Global,
@@ -73,12 +73,12 @@ fn parse_loop_rest(
             tokens.expect(TokenKind::SymBraceRight)?;
             return Ok((statements, Some(continuing)));
         }
-        statements.push(parse_statement_behind(alloc, tokens, attributes, start)?)?;
+        statements.push(parse_statement_after(alloc, tokens, attributes, start)?)?;
     }
     Ok((statements, None))
 }
 
-/// What a `loop` does after each turn, behind its attributes.
+/// What a `loop` does after each turn, after its attributes.
 #[tactic(auto, using(crate::proofs::LoopParts::continuings))]
 #[inline(never)]
 #[cycle(statement)]
@@ -88,7 +88,7 @@ fn parse_continuing_part(
     attributes: Attributes,
 ) -> Result<ContinuingStatement, Fault>
     ensures { Parses continuing_statement_view result tokens.old tokens.new
-        (behind_attributes continuing_statement_of
+        (after_attributes continuing_statement_of
         (attributes_view attributes.items) (reader (further continuing_part))) }
 {
     let body_attributes = parse_block_start_after(alloc, tokens, TokenKind::KwContinuing)?;
@@ -103,7 +103,7 @@ fn parse_continuing_part(
     })
 }
 
-/// The statements of a `continuing`, its `break if` if there is one, and the `}` behind them.
+/// The statements of a `continuing`, its `break if` if there is one, and the `}` after them.
 #[cycle(statement)]
 fn parse_continuing_rest(
     alloc: Global,
@@ -120,7 +120,7 @@ fn parse_continuing_rest(
         let start = tokens.start();
         let attributes = parse_attributes(alloc, tokens)?;
         if !tokens.eat(TokenKind::KwBreak) {
-            statements.push(parse_statement_behind(alloc, tokens, attributes, start)?)?;
+            statements.push(parse_statement_after(alloc, tokens, attributes, start)?)?;
             continue;
         }
         if !tokens.eat(TokenKind::SymSemicolon) {
@@ -132,7 +132,7 @@ fn parse_continuing_rest(
     Ok((statements, None))
 }
 
-/// A `while`, behind its attributes.
+/// A `while`, after its attributes.
 #[tactic(auto, using(crate::proofs::LoopParts::whiles))]
 #[inline(never)]
 #[cycle(statement)]
@@ -141,7 +141,7 @@ pub fn parse_while_part(
     tokens: &mut Cursor,
     attributes: Attributes,
 ) -> Result<Statement, Fault>
-    ensures { Parses statement_view result tokens.old tokens.new (behind_attributes statement
+    ensures { Parses statement_view result tokens.old tokens.new (after_attributes statement
         (attributes_view attributes.items) (reader (further while_part))) }
 {
     let condition = parse_condition(alloc, tokens, TokenKind::KwWhile)?;
@@ -153,7 +153,7 @@ pub fn parse_while_part(
     }))
 }
 
-/// A `for`, behind its attributes.
+/// A `for`, after its attributes.
 #[tactic(auto, using(crate::proofs::LoopParts::fors))]
 #[inline(never)]
 #[cycle(statement)]
@@ -162,7 +162,7 @@ pub fn parse_for_part(
     tokens: &mut Cursor,
     attributes: Attributes,
 ) -> Result<Statement, Fault>
-    ensures { Parses statement_view result tokens.old tokens.new (behind_attributes statement
+    ensures { Parses statement_view result tokens.old tokens.new (after_attributes statement
         (attributes_view attributes.items) (reader (further for_part))) }
 {
     let (initializer, condition, update) = parse_for_header(alloc, tokens)?;

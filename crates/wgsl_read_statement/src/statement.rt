@@ -1,4 +1,4 @@
-//! Statements: which one stands there.
+//! Statements: which one is there.
 #![tactic(auto, unfolding(crate::proofs::Hints::definitions), using(crate::proofs::Hints::lemmas))]
 
 ghost use Rattle.std.specs.Prelude.{◌≡◌};
@@ -10,8 +10,8 @@ ghost use Rattle.wgsl_tree_statement.specs.View.{statement_view, statement_node_
 ghost use Rattle.wgsl_theory_grammar.specs.Factored.{FactoredSymbol.of, FactoredSymbol.further, Further.braced_part};
 ghost use Rattle.wgsl_theory_grammar.specs.Reader.{reader};
 ghost use Rattle.wgsl_read_cursor.specs.Reading.{state, Parses};
-ghost use Rattle.wgsl_read_attribute.specs.Behind.{behind_attributes};
-ghost use Rattle.wgsl_read_statement.specs.Statements.{begin_braced_part, statement_part_at, statement_behind_at};
+ghost use Rattle.wgsl_read_attribute.specs.After.{after_attributes};
+ghost use Rattle.wgsl_read_statement.specs.Statements.{begin_braced_part, statement_part_at, statement_after_at};
 
 use crate::block::parse_block_part;
 use crate::if_chain::parse_if_part;
@@ -53,7 +53,7 @@ const STATEMENT: Expected = Expected::OneOf(&[
     TokenKind::Ident,
 ]);
 
-/// What can stand behind attributes of a statement.
+/// What can be after attributes of a statement.
 const ATTRIBUTED_STATEMENT: Expected = Expected::OneOf(&[
     TokenKind::SymAnd,
     TokenKind::SymAttr,
@@ -87,20 +87,20 @@ pub fn parse_statement(alloc: Global, tokens: &mut Cursor) -> Result<StatementNo
     }
     let start = tokens.start();
     let attributes = parse_attributes(alloc, tokens)?;
-    parse_statement_behind(alloc, tokens, attributes, start)
+    parse_statement_after(alloc, tokens, attributes, start)
 }
 
 /// A statement after its attributes, and its place, which begins where they do. Each statement
 /// inside another is read by this.
 #[cycle(statement)]
-pub fn parse_statement_behind(
+pub fn parse_statement_after(
     alloc: Global,
     tokens: &mut Cursor,
     attributes: Attributes,
     start: usize,
 ) -> Result<StatementNode, Fault>
     ensures { Parses statement_node_view result tokens.old tokens.new
-        (statement_behind_at (attributes_view attributes.items) start) }
+        (statement_after_at (attributes_view attributes.items) start) }
 {
     tokens.go_deeper()?;
     let statement = parse_statement_part(alloc, tokens, attributes)?;
@@ -108,7 +108,7 @@ pub fn parse_statement_behind(
     Ok(Spanned::new(alloc, statement, tokens.span_from(start))?)
 }
 
-/// A statement from its first word on, behind its attributes.
+/// A statement from its first word on, after its attributes.
 #[cycle(statement)]
 fn parse_statement_part(
     alloc: Global,
@@ -116,7 +116,7 @@ fn parse_statement_part(
     attributes: Attributes,
 ) -> Result<Statement, Fault>
     ensures { Parses statement_view result tokens.old tokens.new
-        (behind_attributes statement (attributes_view attributes.items) statement_part_at) }
+        (after_attributes statement (attributes_view attributes.items) statement_part_at) }
 {
     if tokens.is_at(TokenKind::KwBreak) {
         return parse_break_part(tokens, attributes);
@@ -124,12 +124,12 @@ fn parse_statement_part(
     if begins_braced_part(tokens) {
         return parse_braced_part(alloc, tokens, attributes);
     }
-    let expected = expected_behind(&attributes);
+    let expected = expected_after(&attributes);
     parse_ended_part(alloc, tokens, attributes, expected)
 }
 
-/// What could stand in the place of a token that begins no statement, behind attributes.
-fn expected_behind(attributes: &Attributes) -> Expected {
+/// What could be in the place of a token that begins no statement, after attributes.
+fn expected_after(attributes: &Attributes) -> Expected {
     if attributes.is_empty() {
         STATEMENT
     } else {
@@ -149,14 +149,14 @@ fn begins_braced_part(tokens: &Cursor) -> bool
         || tokens.is_at(TokenKind::KwWhile)
 }
 
-/// A statement that ends with a block, behind its attributes.
+/// A statement that ends with a block, after its attributes.
 #[cycle(statement)]
 fn parse_braced_part(
     alloc: Global,
     tokens: &mut Cursor,
     attributes: Attributes,
 ) -> Result<Statement, Fault>
-    ensures { Parses statement_view result tokens.old tokens.new (behind_attributes statement
+    ensures { Parses statement_view result tokens.old tokens.new (after_attributes statement
         (attributes_view attributes.items) (reader (further braced_part))) }
 {
     if tokens.is_at(TokenKind::KwIf) {

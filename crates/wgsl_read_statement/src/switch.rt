@@ -9,7 +9,7 @@ ghost use Rattle.wgsl_tree_statement.specs.View.{statement_view, switch_clause_v
 ghost use Rattle.wgsl_theory_grammar.specs.Factored.{FactoredSymbol.of, FactoredSymbol.further, Further.switch_part};
 ghost use Rattle.wgsl_theory_grammar.specs.Reader.{reader};
 ghost use Rattle.wgsl_read_cursor.specs.Reading.{Parses};
-ghost use Rattle.wgsl_read_attribute.specs.Behind.{behind_attributes};
+ghost use Rattle.wgsl_read_attribute.specs.After.{after_attributes};
 ghost use Rattle.wgsl_read_statement.specs.Switches.{clauses_at};
 
 use crate::block::parse_compound_statement;
@@ -21,7 +21,7 @@ use wgsl_read_part::{parse_clause_head, parse_switch_head};
 use wgsl_tree_attribute::Attributes;
 use wgsl_tree_statement::{Statement, SwitchClause, SwitchStatement};
 
-/// A `switch`, behind its attributes.
+/// A `switch`, after its attributes.
 #[tactic(auto, using(crate::proofs::Switches::switches))]
 #[inline(never)]
 #[cycle(statement)]
@@ -30,7 +30,7 @@ pub fn parse_switch_part(
     tokens: &mut Cursor,
     attributes: Attributes,
 ) -> Result<Statement, Fault>
-    ensures { Parses statement_view result tokens.old tokens.new (behind_attributes statement
+    ensures { Parses statement_view result tokens.old tokens.new (after_attributes statement
         (attributes_view attributes.items) (reader (further switch_part))) }
 {
     let (expression, body_attributes) = parse_switch_head(alloc, tokens)?;
@@ -43,7 +43,7 @@ pub fn parse_switch_part(
     }))
 }
 
-/// The clauses, one at least, up to the `}` behind them.
+/// The clauses, one at least, up to the `}` after them.
 #[cycle(statement)]
 fn parse_clauses(alloc: Global, tokens: &mut Cursor) -> Result<Vec<SwitchClause>, Fault>
     ensures { Parses

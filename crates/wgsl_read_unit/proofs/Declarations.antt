@@ -12,21 +12,21 @@ use Rattle.wgsl_theory_grammar.specs.Tables.{tables}
 use Rattle.wgsl_theory_grammar.specs.Reader.{reader}
 use Rattle.wgsl_theory_grammar.specs.UnitRules.{global_declaration_at}
 use Rattle.wgsl_theory_grammar.proofs.UnitEquations.{global_declaration_is}
-use Rattle.wgsl_read_unit.specs.Parts.{declaration_part_at, declaration_behind_at}
+use Rattle.wgsl_read_unit.specs.Parts.{declaration_part_at, declaration_after_at}
 
 -- an empty declaration
 unfoldable pub void_at : State → Read (Spanned GlobalDeclaration)
 void_at s = go tables reader void_declaration s
 
--- attributes, and a declaration behind them
+-- attributes, and a declaration after them
 unfoldable pub attributed_at : State → Read (Spanned GlobalDeclaration)
-attributed_at s = reader (further attribute_list) s >>= λ a s'. declaration_behind_at a (next_start s) s'
+attributed_at s = reader (further attribute_list) s >>= λ a s'. declaration_after_at a (next_start s) s'
 
 unfoldable pub global_declaration_parts : State → Read (Spanned GlobalDeclaration)
 global_declaration_parts s = cond (is_at SymSemicolon s) (void_at s) (attributed_at s)
 
 pub global_declaration_by_parts : (s : State) → reader (of global_declaration) s ≡ global_declaration_parts s
-unfolding global_declaration_at global_declaration_parts void_at attributed_at declaration_behind_at declaration_part_at
+unfolding global_declaration_at global_declaration_parts void_at attributed_at declaration_after_at declaration_part_at
 global_declaration_by_parts s =
     let place : GlobalDeclaration → State → Read (Spanned GlobalDeclaration) =
     λ d s'. done (spanned d (span_from (next_start s) s')) s' in

@@ -18,36 +18,36 @@ use Rattle.wgsl_theory_grammar.specs.Tables.{tables, begin_global_declaration}
 use Rattle.wgsl_theory_grammar.specs.Reader.{reader}
 use Rattle.wgsl_theory_grammar.specs.UnitRules.{front_at}
 use Rattle.wgsl_theory_grammar.proofs.UnitEquations.{front_is}
-use Rattle.wgsl_read_attribute.specs.Behind.{behind_attributes}
+use Rattle.wgsl_read_attribute.specs.After.{after_attributes}
 use Rattle.wgsl_read_attribute.proofs.Begun.{attributes_begun}
 use Rattle.wgsl_read_attribute.proofs.Classes.{alone, other_class, not_one, none_among}
-use Rattle.wgsl_read_simple.proofs.Binding.{put_before, behind, behind_more, behind_none}
-use Rattle.wgsl_read_unit.specs.Parts.{declaration_part_at, declaration_behind_at, further_declarations_at, begin_directive_part, begin_attributed}
+use Rattle.wgsl_read_simple.proofs.Binding.{put_before, following, after_more, after_none}
+use Rattle.wgsl_read_unit.specs.Parts.{declaration_part_at, declaration_after_at, further_declarations_at, begin_directive_part, begin_attributed}
 use Rattle.wgsl_read_unit.proofs.Turns.{further_turn, further_are}
 use Rattle.wgsl_read_unit.proofs.Declarations.{void_at, attributed_at, global_declaration_parts, global_declaration_by_parts}
 
 abbrev FrontItems : Type 0
 FrontItems = List GlobalDirective × List (Spanned GlobalDeclaration)
 
--- directives and declarations, behind the directives that were read so far
+-- directives and declarations, after the directives that were read so far
 unfoldable pub front_from : List GlobalDirective → State → Read FrontItems
-front_from directives s = behind directives (reader (further front) s)
+front_from directives s = following directives (reader (further front) s)
 
--- further declarations, behind all directives
+-- further declarations, after all directives
 abbrev closed_by : List GlobalDirective → List (Spanned GlobalDeclaration) → State → Read FrontItems
 closed_by directives declarations s = further_declarations_at declarations s >>= λ all s'. done (directives, all) s'
 
--- behind attributes that begin at a place: a directive and more, or a first declaration and further
+-- after attributes that begin at a place: a directive and more, or a first declaration and further
 -- ones
-abbrev behind_front_attributes : List GlobalDirective → ℕ → Attributes → State → Read FrontItems
-behind_front_attributes directives start a s = cond (is_any begin_directive_part s)
-    (behind_attributes with_attributes a (reader (further directive_part)) s
+abbrev after_front_attributes : List GlobalDirective → ℕ → Attributes → State → Read FrontItems
+after_front_attributes directives start a s = cond (is_any begin_directive_part s)
+    (after_attributes with_attributes a (reader (further directive_part)) s
     >>= λ d s'. front_from (directives ++ d ∷ []) s')
-    (declaration_behind_at a start s >>= λ d s'. closed_by directives (d ∷ []) s')
+    (declaration_after_at a start s >>= λ d s'. closed_by directives (d ∷ []) s')
 
 unfoldable pub front_turn : List GlobalDirective → State → Read FrontItems
 front_turn directives s = cond (is_any begin_attributed s) (reader (further attribute_list) s
-    >>= λ a s'. behind_front_attributes directives (next_start s) a s') (closed_by directives [] s)
+    >>= λ a s'. after_front_attributes directives (next_start s) a s') (closed_by directives [] s)
 
 -- ---- as the grammar writes them
 abbrev directive_item : FactoredRule (Attributes → FrontItems)
@@ -59,15 +59,15 @@ part_written = symbol (further attributed_part) or symbol (further led_part)
 abbrev declaration_item : FactoredRule (Attributes → FrontItems)
 declaration_item = with_place part_written then symbol (further declaration_list) gives declaration_first
 
-abbrev behind_them : FactoredRule (Attributes → FrontItems)
-behind_them = directive_item or declaration_item
+abbrev after_them : FactoredRule (Attributes → FrontItems)
+after_them = directive_item or declaration_item
 
 abbrev void_item : FactoredRule FrontItems
 void_item = void_declaration then symbol (further declaration_list) gives λ p. ([], p.0 ∷ p.1)
 
 directive_item_is : (l : List GlobalDirective) (a : Attributes) (s : State)
     → (go tables reader directive_item s >>= λ f s'. done (put_before l (f a)) s')
-    ≡ (behind_attributes with_attributes a (reader (further directive_part)) s >>= λ d s'. front_from (l ++ d ∷ []) s')
+    ≡ (after_attributes with_attributes a (reader (further directive_part)) s >>= λ d s'. front_from (l ++ d ∷ []) s')
 unfolding front_from
 directive_item_is l a s =
     bind_associates (go tables reader (symbol (further directive_part) then symbol (further front)) s)
@@ -75,11 +75,11 @@ directive_item_is l a s =
     ∙ pair_goes_on (reader (further directive_part) s) (reader (further front))
     (λ p s'. done (put_before l (directive_first p a)) s')
     ∙ bind_alike (reader (further directive_part) s) _ _
-    (λ u s' h. behind_more l (with_attributes a u) (reader (further front) s'))
+    (λ u s' h. after_more l (with_attributes a u) (reader (further front) s'))
     ∙ sym (bind_associates (reader (further directive_part) s) (λ u s'. done (with_attributes a u) s')
-    (λ d s'. behind (l ++ d ∷ []) (reader (further front) s')))
+    (λ d s'. following (l ++ d ∷ []) (reader (further front) s')))
 
--- a declaration and those behind it
+-- a declaration and those after it
 abbrev item_written : State → Read UnattributedDeclaration → Read (Attributes → FrontItems)
 item_written s m = ((m >>= λ u s1. done (u, span_from (next_start s) s1) s1)
     >>= λ x s1. reader (further declaration_list) s1 >>= λ r s2. done (x, r) s2)
@@ -110,20 +110,20 @@ item_is l a s s' h (stop e) = refl
 declaration_item_is : (l : List GlobalDirective) (a : Attributes) (s s' : State)
     → reader (further attribute_list) s ≡ done a s'
     → (go tables reader declaration_item s' >>= λ f s''. done (put_before l (f a)) s'')
-    ≡ (declaration_behind_at a (next_start s) s' >>= λ d s''. closed_by l (d ∷ []) s'')
-unfolding declaration_behind_at declaration_part_at
+    ≡ (declaration_after_at a (next_start s) s' >>= λ d s''. closed_by l (d ∷ []) s'')
+unfolding declaration_after_at declaration_part_at
 declaration_item_is l a s s' h = item_is l a s s' h (go tables reader part_written s')
 
 attributed_is : (l : List GlobalDirective) (s : State)
-    → behind l (go tables reader (attributes_before taken_by behind_them) s)
-    ≡ (reader (further attribute_list) s >>= λ a s'. behind_front_attributes l (next_start s) a s')
+    → following l (go tables reader (attributes_before taken_by after_them) s)
+    ≡ (reader (further attribute_list) s >>= λ a s'. after_front_attributes l (next_start s) a s')
 attributed_is l s =
-    ap (behind l) (pair_goes_on (reader (further attribute_list) s) (go tables reader behind_them)
+    ap (following l) (pair_goes_on (reader (further attribute_list) s) (go tables reader after_them)
     (λ p s'. done (taken_by p.0 p.1) s'))
-    ∙ bind_associates (reader (further attribute_list) s) (λ a s'. go tables reader behind_them s'
+    ∙ bind_associates (reader (further attribute_list) s) (λ a s'. go tables reader after_them s'
     >>= λ f s''. done (taken_by a f) s'') (λ p s'. done (put_before l p) s')
     ∙ bind_alike (reader (further attribute_list) s) _ _ (λ a s' h. bind_associates (go tables
-    reader behind_them s') (λ f s''. done (taken_by a f) s'') (λ p s''. done (put_before l p) s'')
+    reader after_them s') (λ f s''. done (taken_by a f) s'') (λ p s''. done (put_before l p) s'')
     ∙ bind_cond (is_any begin_directive_part s') (go tables reader directive_item s')
     (go tables reader declaration_item s') (λ f s''. done (put_before l (f a)) s'')
     ∙ ap₂ (cond (is_any begin_directive_part s')) (directive_item_is l a s') (declaration_item_is l a s s' h))
@@ -144,7 +144,7 @@ semicolon_begins s y = elim (cases (is_any begin_global_declaration s)) [
 
 -- an empty declaration and further ones
 void_is : (l : List GlobalDirective) (s : State) → is_at SymSemicolon s ≡ true
-    → behind l (go tables reader void_item s) ≡ closed_by l [] s
+    → following l (go tables reader void_item s) ≡ closed_by l [] s
 unfolding void_at further_turn further_declarations_at global_declaration_parts
 void_is l s y =
     let more : State → Read (List (Spanned GlobalDeclaration)) = reader (further declaration_list) in
@@ -164,7 +164,7 @@ void_is l s y =
 
 -- nothing
 nothing_is : (l : List GlobalDirective) (s : State) → is_any begin_global_declaration s ≡ false
-    → behind l (done ([], []) s) ≡ closed_by l [] s
+    → following l (done ([], []) s) ≡ closed_by l [] s
 unfolding further_turn
 nothing_is l s n =
     ap (λ xs. done (xs, []) s) (append-nil l)
@@ -182,16 +182,16 @@ pub front_are : (directives : List GlobalDirective) (s : State) → front_from d
 unfolding front_from front_turn front_at
 front_are l s =
     let void : Read FrontItems = go tables reader void_item s in
-    let attributed : Read FrontItems = go tables reader (attributes_before taken_by behind_them) s in
+    let attributed : Read FrontItems = go tables reader (attributes_before taken_by after_them) s in
     let nothing : Read FrontItems = done ([], []) s in
     let made : Read FrontItems = reader (further attribute_list) s
-    >>= λ a s'. behind_front_attributes l (next_start s) a s' in
+    >>= λ a s'. after_front_attributes l (next_start s) a s' in
     let written : Read FrontItems = cond (is_at SymSemicolon s) void
     (cond (is_any begin_attributed s) attributed nothing) in
-    ap (behind l) (front_is s)
+    ap (following l) (front_is s)
     ∙ elim (cases (is_any begin_attributed s)) [
       | inl y ↦
-          ap (behind l) (cond_no {A = Read FrontItems} (is_at SymSemicolon s) void
+          ap (following l) (cond_no {A = Read FrontItems} (is_at SymSemicolon s) void
           (cond (is_any begin_attributed s) attributed nothing) (not_at s y)
           ∙ cond_yes {A = Read FrontItems} (is_any begin_attributed s) attributed nothing y)
           ∙ attributed_is l s
@@ -208,21 +208,21 @@ front_are l s =
     ]
 
     unattributed_is : is_any begin_attributed s ≡ false
-        → behind l (cond (is_at SymSemicolon s) (go tables reader void_item s) (cond (is_any begin_attributed s)
-        (go tables reader (attributes_before taken_by behind_them) s) (done ([], []) s))) ≡ closed_by l [] s
+        → following l (cond (is_at SymSemicolon s) (go tables reader void_item s) (cond (is_any begin_attributed s)
+        (go tables reader (attributes_before taken_by after_them) s) (done ([], []) s))) ≡ closed_by l [] s
     unattributed_is n = elim (cases (is_at SymSemicolon s)) [
-      | inl y ↦ ap (behind l) (cond_yes {A = Read FrontItems} (is_at SymSemicolon s)
+      | inl y ↦ ap (following l) (cond_yes {A = Read FrontItems} (is_at SymSemicolon s)
           (go tables reader void_item s) (cond (is_any begin_attributed s) (go tables reader
-          (attributes_before taken_by behind_them) s) (done ([], []) s)) y) ∙ void_is l s y
+          (attributes_before taken_by after_them) s) (done ([], []) s)) y) ∙ void_is l s y
       | inr m ↦
-          ap (behind l) (cond_no {A = Read FrontItems} (is_at SymSemicolon s)
+          ap (following l) (cond_no {A = Read FrontItems} (is_at SymSemicolon s)
           (go tables reader void_item s) (cond (is_any begin_attributed s)
-          (go tables reader (attributes_before taken_by behind_them) s) (done ([], []) s)) m
+          (go tables reader (attributes_before taken_by after_them) s) (done ([], []) s)) m
           ∙ cond_no {A = Read FrontItems} (is_any begin_attributed s)
-          (go tables reader (attributes_before taken_by behind_them) s) (done ([], []) s) n)
+          (go tables reader (attributes_before taken_by after_them) s) (done ([], []) s) n)
           ∙ nothing_is l s (neither_begins s n m)
     ]
 
 pub front_from_none : (s : State) → reader (further front) s ≡ front_from [] s
 unfolding front_from
-front_from_none s = behind_none (reader (further front) s)
+front_from_none s = after_none (reader (further front) s)

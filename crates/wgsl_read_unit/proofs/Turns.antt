@@ -6,7 +6,7 @@ use Rattle.grammar.specs.States.{State, Read, Read.done, Read.stop, Stop, ◌>>=
 use Rattle.grammar.proofs.Reading.Beginnings.{pick}
 use Rattle.grammar.proofs.Binding.{bind_associates, bind_alike}
 use Rattle.grammar.proofs.States.{turns_are, shortens}
-use Rattle.grammar.proofs.Lists.{separated, behind_none}
+use Rattle.grammar.proofs.Lists.{separated, after_none}
 use Rattle.wgsl_model.specs.Tokens.ClassTable.{SymComma, SymParenRight}
 use Rattle.wgsl_model.specs.Trees.Spanned.{Spanned}
 use Rattle.wgsl_model.specs.Trees.Units.{FormalParameter, GlobalDeclaration}
@@ -22,7 +22,7 @@ use Rattle.wgsl_read_expression.proofs.Growing.{bind_pick}
 use Rattle.wgsl_read_unit.specs.Parts.{further_declarations_at}
 
 -- ---- parameters
--- the parameters behind some
+-- the parameters after some
 unfoldable pub parameters_from : List FormalParameter → State → Read (List FormalParameter)
 parameters_from ps s = reader (further parameter_rest) s >>= λ m s'. done (ps ++ m) s'
 
@@ -34,7 +34,7 @@ parameters_turn ps s = cond (is_at SymParenRight s) (take SymParenRight s >>= λ
 
 pub parameters_is : (s : State) → reader (further parameter_rest) s ≡ parameters_from [] s
 unfolding parameters_from
-parameters_is s = behind_none (reader (further parameter_rest) s)
+parameters_is s = after_none (reader (further parameter_rest) s)
 
 pub parameters_are : (ps : List FormalParameter) (s : State) → parameters_from ps s ≡ parameters_turn ps s
 unfolding parameters_from parameters_turn
@@ -49,7 +49,7 @@ Declarations = List (Spanned GlobalDeclaration)
 abbrev grown : Declarations → Spanned GlobalDeclaration → Span → Declarations
 grown xs x span = xs ++ (x ∷ [])
 
--- so many further declarations at most
+-- a number of further declarations at most
 abbrev turns_of : ℕ → ℕ → Declarations → State → Read Declarations
 turns_of k start ds s = turns_in k grown begin_global_declaration (reader (of global_declaration)) start ds s
 
@@ -60,18 +60,18 @@ same_turns (suc k) i j ds s =
     ap (λ (m : Read Declarations). pick (is_any begin_global_declaration s) m (done ds s))
     (bind_alike (reader (of global_declaration) s) _ _ (λ d s' h. same_turns k i j (ds ++ (d ∷ [])) s'))
 
--- those behind some are put behind them
-turns_behind : (k i : ℕ) (xs ys : Declarations) (s : State)
+-- those after some are put after them
+turns_after : (k i : ℕ) (xs ys : Declarations) (s : State)
     → (turns_of k i ys s >>= λ zs s'. done (xs ++ zs) s') ≡ turns_of k i (xs ++ ys) s
-turns_behind zero i xs ys s = bind_pick (is_any begin_global_declaration s) (stop Stop.never)
+turns_after zero i xs ys s = bind_pick (is_any begin_global_declaration s) (stop Stop.never)
     (done ys s) (λ zs s'. done (xs ++ zs) s')
-turns_behind (suc k) i xs ys s =
+turns_after (suc k) i xs ys s =
     let put : Declarations → State → Read Declarations = λ zs s'. done (xs ++ zs) s' in
     let one : Read (Spanned GlobalDeclaration) = reader (of global_declaration) s in
     let turn : Spanned GlobalDeclaration → State → Read Declarations = λ d s'. turns_of k i (ys ++ (d ∷ [])) s' in
     bind_pick (is_any begin_global_declaration s) (one >>= turn) (done ys s) put
     ∙ ap (λ (m : Read Declarations). pick (is_any begin_global_declaration s) m (done (xs ++ ys) s))
-    (bind_associates one turn put ∙ bind_alike one _ _ (λ d s' h. turns_behind k i xs (ys ++ (d ∷ [])) s'
+    (bind_associates one turn put ∙ bind_alike one _ _ (λ d s' h. turns_after k i xs (ys ++ (d ∷ [])) s'
     ∙ ap (λ (z : Declarations). turns_of k i z s') (sym (append_assoc xs ys (d ∷ [])))))
 
 further_turns : (start : ℕ) (ds : Declarations) (s : State) → further_declarations_at ds s
@@ -80,7 +80,7 @@ unfolding further_declarations_at declaration_list_at
 further_turns start ds s =
     ap (λ (m : Read Declarations). m >>= λ more s'. done (ds ++ more) s')
     (declaration_list_is s ∙ same_turns (length s.rest) (next_start s) start [] s)
-    ∙ turns_behind (length s.rest) start ds [] s
+    ∙ turns_after (length s.rest) start ds [] s
     ∙ ap (λ (z : Declarations). turns_of (length s.rest) start z s) (append-nil ds)
 
 -- one more, where the next token begins one

@@ -13,7 +13,7 @@ use Rattle.wgsl_model.specs.Grammar.Symbols.{Symbol.type_specifier}
 use Rattle.wgsl_theory_grammar.specs.Factored.{FactoredSymbol.of, FactoredSymbol.further, Further.attribute_list, Further.assert_part, Further.attributed_part, Further.led_part, Further.declaration_list}
 use Rattle.wgsl_theory_grammar.specs.Tables.{tables}
 use Rattle.wgsl_theory_grammar.specs.Reader.{reader}
-use Rattle.wgsl_read_attribute.specs.Behind.{behind_attributes}
+use Rattle.wgsl_read_attribute.specs.After.{after_attributes}
 
 -- "->" A* TypeSpecifier, or nothing
 unfoldable pub return_part_at : State → Read (Option (Attributes × TypeExpression))
@@ -25,7 +25,7 @@ unfoldable pub assert_declaration_at : State → Read UnattributedDeclaration
 assert_declaration_at s = go tables reader
     (symbol (further assert_part) ◃ SymSemicolon gives UnattributedDeclaration.const_assert) s
 
--- the tokens that begin a function, an `override` or a `var` behind attributes
+-- the tokens that begin a function, an `override` or a `var` after attributes
 abbrev pub begin_attributed_part : List ℕ
 begin_attributed_part = KwFn ∷ KwOverride ∷ KwVar ∷ []
 
@@ -34,22 +34,22 @@ unfoldable pub declaration_part_at : State → Read UnattributedDeclaration
 declaration_part_at s = cond (is_any begin_attributed_part s) (reader (further attributed_part) s)
     (reader (further led_part) s)
 
--- a declaration behind its attributes, which begin at a place
-unfoldable pub declaration_behind_at : Attributes → ℕ → State → Read (Spanned GlobalDeclaration)
-declaration_behind_at a start s = behind_attributes with_attributes a declaration_part_at s
+-- a declaration after its attributes, which begin at a place
+unfoldable pub declaration_after_at : Attributes → ℕ → State → Read (Spanned GlobalDeclaration)
+declaration_after_at a start s = after_attributes with_attributes a declaration_part_at s
     >>= λ d s'. done (spanned d (span_from start s')) s'
 
--- further declarations behind some
+-- further declarations after some
 unfoldable pub further_declarations_at : List (Spanned GlobalDeclaration) → State
     → Read (List (Spanned GlobalDeclaration))
 further_declarations_at declarations s = reader (further declaration_list) s
     >>= λ more s'. done (declarations ++ more) s'
 
--- the tokens that begin a directive behind attributes
+-- the tokens that begin a directive after attributes
 abbrev pub begin_directive_part : List ℕ
 begin_directive_part = KwDiagnostic ∷ KwEnable ∷ KwRequires ∷ []
 
--- the tokens that begin attributes, and a directive or a declaration behind them
+-- the tokens that begin attributes, and a directive or a declaration after them
 abbrev pub begin_attributed : List ℕ
 begin_attributed = SymAttr ∷ KwDiagnostic ∷ KwEnable ∷ KwRequires ∷ KwFn ∷ KwOverride ∷ KwVar
     ∷ KwAlias ∷ KwConst ∷ KwConstAssert ∷ KwStruct ∷ []

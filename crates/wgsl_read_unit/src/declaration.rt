@@ -11,8 +11,8 @@ ghost use Rattle.wgsl_tree_unit.specs.View.{global_declaration_view};
 ghost use Rattle.wgsl_theory_grammar.specs.Factored.{FactoredSymbol.of, FactoredSymbol.further, Further.attributed_part, Further.led_part};
 ghost use Rattle.wgsl_theory_grammar.specs.Reader.{reader};
 ghost use Rattle.wgsl_read_cursor.specs.Reading.{state, Parses};
-ghost use Rattle.wgsl_read_attribute.specs.Behind.{behind_attributes};
-ghost use Rattle.wgsl_read_unit.specs.Parts.{begin_attributed_part, declaration_part_at, declaration_behind_at, assert_declaration_at};
+ghost use Rattle.wgsl_read_attribute.specs.After.{after_attributes};
+ghost use Rattle.wgsl_read_unit.specs.Parts.{begin_attributed_part, declaration_part_at, declaration_after_at, assert_declaration_at};
 
 use crate::function::parse_function_part;
 use std::alloc::Global;
@@ -28,7 +28,7 @@ use wgsl_tree_attribute::Attributes;
 use wgsl_tree_simple::ConstAssert;
 use wgsl_tree_unit::{GlobalDeclaration, GlobalDeclarationNode};
 
-/// What can stand behind the attributes of a declaration.
+/// What can be after the attributes of a declaration.
 const ATTRIBUTED_DECLARATION: Expected = Expected::OneOf(&[
     TokenKind::SymAttr,
     TokenKind::KwAlias,
@@ -40,7 +40,7 @@ const ATTRIBUTED_DECLARATION: Expected = Expected::OneOf(&[
     TokenKind::KwVar,
 ]);
 
-/// A declaration with its `;`, if it has one, and where it stands, its attributes included (WGSL,
+/// A declaration with its `;`, if it has one, and where it is, its attributes included (WGSL,
 /// "WGSL Module"). An empty one has no attributes.
 pub fn parse_global_declaration(
     alloc: Global,
@@ -54,31 +54,31 @@ pub fn parse_global_declaration(
         return Ok(Spanned::new(alloc, GlobalDeclaration::Void, tokens.span_from(start))?);
     }
     let attributes = parse_attributes(alloc, tokens)?;
-    parse_declaration_behind(alloc, tokens, attributes, start)
+    parse_declaration_after(alloc, tokens, attributes, start)
 }
 
-/// A declaration behind its attributes, and its place, which begins where they do.
-pub fn parse_declaration_behind(
+/// A declaration after its attributes, and its place, which begins where they do.
+pub fn parse_declaration_after(
     alloc: Global,
     tokens: &mut Cursor,
     attributes: Attributes,
     start: usize,
 ) -> Result<GlobalDeclarationNode, Fault>
     ensures { Parses (spanned_view global_declaration_view) result tokens.old tokens.new
-        (declaration_behind_at (attributes_view attributes.items) start) }
+        (declaration_after_at (attributes_view attributes.items) start) }
 {
     let declaration = parse_declaration_part(alloc, tokens, attributes)?;
     Ok(Spanned::new(alloc, declaration, tokens.span_from(start))?)
 }
 
-/// A declaration from its first word on, behind its attributes.
+/// A declaration from its first word on, after its attributes.
 fn parse_declaration_part(
     alloc: Global,
     tokens: &mut Cursor,
     attributes: Attributes,
 ) -> Result<GlobalDeclaration, Fault>
     ensures { Parses global_declaration_view result tokens.old tokens.new
-        (behind_attributes with_attributes (attributes_view attributes.items) declaration_part_at) }
+        (after_attributes with_attributes (attributes_view attributes.items) declaration_part_at) }
 {
     if begins_attributed_part(tokens) {
         return parse_attributed_part(alloc, tokens, attributes);
@@ -95,14 +95,14 @@ fn begins_attributed_part(tokens: &Cursor) -> bool
         || tokens.is_at(TokenKind::KwVar)
 }
 
-/// A `var`, an `override` or a function, behind its attributes.
+/// A `var`, an `override` or a function, after its attributes.
 fn parse_attributed_part(
     alloc: Global,
     tokens: &mut Cursor,
     attributes: Attributes,
 ) -> Result<GlobalDeclaration, Fault>
     ensures { Parses global_declaration_view result tokens.old tokens.new
-        (behind_attributes with_attributes
+        (after_attributes with_attributes
         (attributes_view attributes.items) (reader (further attributed_part))) }
 {
     if tokens.is_at(TokenKind::KwVar) {
@@ -114,14 +114,14 @@ fn parse_attributed_part(
     parse_function_part(alloc, tokens, attributes)
 }
 
-/// Another declaration that is not empty, behind its attributes.
+/// Another declaration that is not empty, after its attributes.
 fn parse_led_part(
     alloc: Global,
     tokens: &mut Cursor,
     attributes: Attributes,
 ) -> Result<GlobalDeclaration, Fault>
     ensures { Parses global_declaration_view result tokens.old tokens.new
-        (behind_attributes with_attributes
+        (after_attributes with_attributes
         (attributes_view attributes.items) (reader (further led_part))) }
 {
     if tokens.is_at(TokenKind::KwConst) {
@@ -136,11 +136,11 @@ fn parse_led_part(
     if tokens.is_at(TokenKind::KwConstAssert) {
         return parse_assert_declaration(alloc, tokens, attributes);
     }
-    Err(tokens.refuse(expected_behind(&attributes)))
+    Err(tokens.refuse(expected_after(&attributes)))
 }
 
-/// What could stand in the place of a token that begins no declaration, behind attributes.
-fn expected_behind(attributes: &Attributes) -> Expected {
+/// What could be in the place of a token that begins no declaration, after attributes.
+fn expected_after(attributes: &Attributes) -> Expected {
     if attributes.is_empty() {
         Expected::DECLARATION
     } else {
@@ -148,14 +148,14 @@ fn expected_behind(attributes: &Attributes) -> Expected {
     }
 }
 
-/// A `const_assert` behind its attributes.
+/// A `const_assert` after its attributes.
 fn parse_assert_declaration(
     alloc: Global,
     tokens: &mut Cursor,
     attributes: Attributes,
 ) -> Result<GlobalDeclaration, Fault>
     ensures { Parses global_declaration_view result tokens.old tokens.new
-        (behind_attributes with_attributes
+        (after_attributes with_attributes
         (attributes_view attributes.items) assert_declaration_at) }
 {
     let expression = parse_assert_part(alloc, tokens)?;

@@ -10,7 +10,7 @@ ghost use Rattle.wgsl_tree_unit.specs.View.{global_declaration_view, parameter_v
 ghost use Rattle.wgsl_theory_grammar.specs.Factored.{FactoredSymbol.of, FactoredSymbol.further, Further.function_part, Further.parameter_rest};
 ghost use Rattle.wgsl_theory_grammar.specs.Reader.{reader};
 ghost use Rattle.wgsl_read_cursor.specs.Reading.{Parses, ParsesNullable};
-ghost use Rattle.wgsl_read_attribute.specs.Behind.{behind_attributes};
+ghost use Rattle.wgsl_read_attribute.specs.After.{after_attributes};
 ghost use Rattle.wgsl_read_unit.specs.Parts.{return_part_at};
 ghost use Rattle.wgsl_read_unit.specs.Results.{returned_view, return_attributes, return_type};
 
@@ -24,14 +24,14 @@ use wgsl_tree_attribute::Attributes;
 use wgsl_tree_expression::TypeExpression;
 use wgsl_tree_unit::{FormalParameter, Function, GlobalDeclaration};
 
-/// A function behind its attributes.
+/// A function after its attributes.
 pub fn parse_function_part(
     alloc: Global,
     tokens: &mut Cursor,
     attributes: Attributes,
 ) -> Result<GlobalDeclaration, Fault>
     ensures { Parses global_declaration_view result tokens.old tokens.new
-        (behind_attributes with_attributes
+        (after_attributes with_attributes
         (attributes_view attributes.items) (reader (further function_part))) }
 {
     tokens.expect(TokenKind::KwFn)?;
@@ -51,7 +51,7 @@ pub fn parse_function_part(
     }))
 }
 
-/// Parameters, none too, with a comma after each, or after each but the last, and the `)` behind
+/// Parameters, none too, with a comma after each, or after each but the last, and the `)` after
 /// them.
 fn parse_parameters(alloc: Global, tokens: &mut Cursor) -> Result<Vec<FormalParameter>, Fault>
     ensures { Parses (λ v. map parameter_view v.items) result tokens.old tokens.new
@@ -82,7 +82,7 @@ fn parse_formal_parameter(alloc: Global, tokens: &mut Cursor) -> Result<FormalPa
     })
 }
 
-/// The attributes and the type of what a function returns behind a `->`, or none.
+/// The attributes and the type of what a function returns after a `->`, or none.
 fn parse_return_part(
     alloc: Global,
     tokens: &mut Cursor,

@@ -12,7 +12,7 @@ ghost use Rattle.wgsl_theory_grammar.specs.Reader.{reader};
 ghost use Rattle.wgsl_read_cursor.specs.Reading.{state, ParsesNullable};
 ghost use Rattle.wgsl_read_unit.specs.Parts.{begin_attributed, begin_directive_part, further_declarations_at};
 
-use crate::declaration::{parse_declaration_behind, parse_global_declaration};
+use crate::declaration::{parse_declaration_after, parse_global_declaration};
 use std::alloc::Global;
 use wgsl_lex_token::kind::TokenKind;
 use wgsl_read_attribute::parse_attributes;
@@ -32,7 +32,7 @@ pub fn parse_translation_unit(alloc: Global, tokens: &mut Cursor) -> Result<Tran
     })
 }
 
-/// The directives of a module and its declarations. Attributes stand before either.
+/// The directives of a module and its declarations. Attributes are before either.
 fn parse_front(
     alloc: Global,
     tokens: &mut Cursor,
@@ -49,7 +49,7 @@ fn parse_front(
         let start = tokens.start();
         let attributes = parse_attributes(alloc, tokens)?;
         if !begins_directive_part(tokens) {
-            let first = parse_declaration_behind(alloc, tokens, attributes, start)?;
+            let first = parse_declaration_after(alloc, tokens, attributes, start)?;
             let declarations = parse_further_declarations(alloc, tokens, vec![in alloc; first]?)?;
             return Ok((directives, declarations));
         }
@@ -76,7 +76,7 @@ fn begins_attributed(tokens: &Cursor) -> bool
         || tokens.is_at(TokenKind::KwStruct)
 }
 
-/// Whether the next token begins a directive, behind its attributes.
+/// Whether the next token begins a directive, after its attributes.
 fn begins_directive_part(tokens: &Cursor) -> bool
     ensures { result ≡ is_any begin_directive_part (state tokens.now) }
 {
@@ -85,7 +85,7 @@ fn begins_directive_part(tokens: &Cursor) -> bool
         || tokens.is_at(TokenKind::KwRequires)
 }
 
-/// Further declarations behind some.
+/// Further declarations after some.
 fn parse_further_declarations(
     alloc: Global,
     tokens: &mut Cursor,

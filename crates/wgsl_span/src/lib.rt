@@ -61,7 +61,7 @@ impl From<Range<usize>> for Span {
     }
 }
 
-/// A node and where it stands. Two are equal where their nodes are.
+/// A node and where it is. Two are equal where their nodes are.
 #[derive(Drop)]
 #[derive_where(Debug; T)]
 pub struct Spanned<T> {
@@ -80,7 +80,7 @@ impl<T: Drop> Spanned<T> {
         })
     }
 
-    /// A node that stands nowhere.
+    /// A node that is nowhere.
     pub fn with_default_span(alloc: Global, node: T) -> Result<Self, AllocError>
         ensures node { IfOk result (λ made. spanned_node made ≡ node) }
         ensures span { IfOk result (λ made. spanned_span made ≡ record { start = 0; end = 0 }) }

@@ -6,7 +6,7 @@ ghost use Rattle.wgsl_span.specs.Keeps.{NodeCalled};
 
 use crate::Spanned;
 
-/// Keeps the nodes for whose value the predicate answers true, as it left them, in order.
+/// Keeps the nodes for whose value the predicate returns true, as it left them, in order.
 pub fn retain_nodes<T: Drop, F: FnMut(&mut T) -> bool>(nodes: &mut Vec<Spanned<T>>, mut f: F)
     requires { F.IsAlwaysCallable f }
     ensures { RetainsInTurn (NodeCalled (CalledAtMut F.FnMut)) f nodes.old.items nodes.new.items }

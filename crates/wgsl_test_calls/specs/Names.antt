@@ -8,7 +8,7 @@ abbrev pub function_name : UnattributedDeclaration → List (List ℕ)
 function_name (function f) = f.ident ∷ []
 function_name _ = []
 
--- of a declaration with its attributes, where it stands
+-- of a declaration with its attributes, where it is
 abbrev pub function_name_in : Spanned GlobalDeclaration → List (List ℕ)
 function_name_in d = function_name d.node.node
 

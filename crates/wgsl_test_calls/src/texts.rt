@@ -1,4 +1,4 @@
-//! The two texts of a module: the canonical one, and the one that is laid out for people.
+//! The two texts of a module: the canonical one, and the one that is formatted for people.
 
 ghost use Rattle.std.specs.Prelude.{◌≡◌, ◌⊎◌, true, IfOk, IfErr, chars, string_bytes};
 ghost use Rattle.wgsl_parse.specs.Program.{IsUnit, IsFaultOf};

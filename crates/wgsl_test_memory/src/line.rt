@@ -39,14 +39,14 @@ impl<'r, R: Print + AllocGlobal> Line<'r, R> {
         }
     }
 
-    /// Keeps that memory was refused to what a call is given.
+    /// Keeps that an allocation failed to what a call is given.
     pub fn refuse(&mut self) {
         if self.failure.is_none() {
             self.failure = Some(ErrorKind::OutOfMemory);
         }
     }
 
-    /// What a call is given, unless memory is refused to it or the text has none.
+    /// What a call is given, unless an allocation fails to it or the text has none.
     pub fn given<T: Drop, E: Refusal>(&mut self, given: Result<T, E>) -> Option<T> {
         match given {
             Ok(value) => Some(value),
@@ -73,7 +73,7 @@ impl<'r, R: Print + AllocGlobal> Line<'r, R> {
         }
     }
 
-    /// Prints that memory was refused to a call.
+    /// Prints that an allocation failed to a call.
     fn tell_refusal(&mut self) {
         if self.failure.is_none() {
             let printed = print!(self.rt; "out of memory\t");

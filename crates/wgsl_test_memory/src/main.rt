@@ -1,5 +1,5 @@
 //! Makes one call of the library on a text and prints what it returns, so that requests for memory
-//! can be refused one by one: the first line of the input names the call, and its text stands
+//! can be refused one by one: the first line of the input names the call, and its text is
 //! after that line. No memory is taken but what the call takes and what it is given.
 #![tactic(auto)]
 
@@ -21,7 +21,7 @@ use std::process::ExitCode;
 /// How long the input is at most.
 const LONGEST: usize = 4096;
 
-/// The status where memory was refused to what a call is given.
+/// The status where an allocation failed to what a call is given.
 const OUT_OF_MEMORY: u8 = 3;
 
 fn invalid() -> io::Error {

@@ -1,5 +1,5 @@
 //! Copies of a node and of its parts, each by itself: of a module its declarations and the
-//! statements of their bodies too, but nothing that stands deeper.
+//! statements of their bodies too, but nothing that is deeper.
 
 use crate::line::Line;
 use crate::statements::{copy_block, copy_parts_of_declaration};

@@ -41,7 +41,7 @@ fn asserted(alloc: Global, text: &str) -> Result<ConstAssert, AllocError> {
     ConstAssert::new(alloc, Expression::from(ident(alloc, text)?))
 }
 
-/// The name where the text stands.
+/// The name where the text is.
 fn spanned(alloc: Global, text: &str) -> Result<Spanned<Ident>, AllocError> {
     Spanned::new(alloc, ident(alloc, text)?, Span::new(0..text.len()))
 }

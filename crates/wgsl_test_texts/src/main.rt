@@ -41,7 +41,7 @@ impl Count {
     }
 }
 
-/// Checks the row that stands in a block of lines, and prints it if it does not hold.
+/// Checks the row that is in a block of lines, and prints it if it does not hold.
 fn check_block<R: Print + AllocGlobal>(rt: &R, file: &str, block: &str) -> io::Result<Count> {
     let row = Row::of_block(rt.alloc(), block)?;
     if row.fields.is_empty() {

@@ -4,7 +4,8 @@ use std::alloc::Global;
 use std::io::{Read, Write};
 use wgsl_format::{Printer, Tidier, run, start_keeping};
 
-/// A call of one of the programs: `run`, or `start_keeping` of `wgslfmt` with so many arguments.
+/// A call of one of the programs: `run`, or `start_keeping` of `wgslfmt` with a number of
+/// arguments.
 #[derive(Clone, Copy)]
 pub enum Call {
     RunWgslfmt,
@@ -13,7 +14,7 @@ pub enum Call {
 }
 
 impl Call {
-    /// The call that a row names, with so many arguments.
+    /// The call that a row names, with a number of arguments.
     pub fn named(name: &str, arguments: usize) -> Option<Call> {
         match name {
             "wgslfmt" => Some(Call::StartWgslfmt(arguments)),

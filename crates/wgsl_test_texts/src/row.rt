@@ -24,7 +24,7 @@ pub struct Row<'f> {
 }
 
 impl<'f> Row<'f> {
-    /// The row that stands in a block of lines.
+    /// The row that is in a block of lines.
     pub fn of_block(alloc: Global, block: &'f str) -> Result<Row<'f>, AllocError> {
         let mut row = Row {
             alloc,

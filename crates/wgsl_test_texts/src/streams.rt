@@ -27,13 +27,13 @@ impl Answer {
         self.status == other.status && self.output == other.output && self.errors == other.errors
     }
 
-    /// Whether a read failed that so many came before: nothing was tried after it.
+    /// Whether a read failed that a number of came before: nothing was tried after it.
     fn is_unread(&self, reads: usize) -> bool {
         self.status == 4 && self.reads == reads.saturating_add(1) && self.writes == 0
     }
 
-    /// Whether a write or flush failed that so many came before: nothing was tried after it, and
-    /// what was written is a beginning of what is due.
+    /// Whether a write or flush failed that a number of came before: nothing was tried after it,
+    /// and what was written is a beginning of what is due.
     fn is_unwritten(&self, writes: usize, due: &Answer) -> bool {
         self.status == 4
             && self.writes == writes.saturating_add(1)
@@ -68,7 +68,7 @@ impl Case<'_> {
         }
     }
 
-    /// Calls of so many bytes that a text of this length goes in few, or in one a byte if the
+    /// Calls of a number of bytes that a text of this length goes in few, or in one a byte if the
     /// source is short.
     fn pieces(self, length: usize) -> Calls {
         if self.source.len() <= SHORT {

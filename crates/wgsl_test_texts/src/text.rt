@@ -1,9 +1,9 @@
-//! Texts in quotes: pieces `"..."`, each with `* N` after it where it stands N times, joined as
+//! Texts in quotes: pieces `"..."`, each with `* N` after it where it is N times, joined as
 //! they are. A `\` begins `\n`, `\r`, `\t`, `\"`, `\\`, a byte `\xFF` or a character `\u{3000}`.
 
 use std::alloc::{AllocError, Global};
 
-/// Where in a line of pieces the next character stands.
+/// Where in a line of pieces the next character is.
 #[derive(Clone, Copy)]
 enum Place {
     Inside,
@@ -13,7 +13,7 @@ enum Place {
     Byte(Option<u8>),
     /// In a character, after the brace with this number so far.
     Character(Option<u32>),
-    /// In a count of so many so far.
+    /// In a count of a number of so far.
     Times(usize),
     /// After something that is not written so.
     Wrong,
@@ -51,7 +51,7 @@ fn digit(character: char) -> Option<u8> {
 }
 
 impl Pieces {
-    /// Puts the last piece after the others so many times.
+    /// Puts the last piece after the others a number of times.
     fn repeat(&mut self, count: usize) -> Result<(), AllocError> {
         for _ in 0..count {
             self.whole.extend_from_slice(&self.piece)?;
@@ -67,7 +67,7 @@ impl Pieces {
         Ok(Place::Inside)
     }
 
-    /// Takes a character, and returns where the next one stands.
+    /// Takes a character, and returns where the next one is.
     fn place_after(&mut self, character: char) -> Result<Place, AllocError> {
         match self.place {
             Place::Inside => match character {

@@ -10,7 +10,7 @@ use wgsl_tree_words::BinaryOperator;
 /// How many operators a long chain has: a step down for each is more than the stack takes.
 const MANY: u32 = 200_000;
 
-/// A name, minus another so many times.
+/// A name, minus another a number of times.
 fn differences(alloc: Global, first: &str, count: u32) -> Result<Expression, AllocError> {
     let mut chain = name(alloc, first)?;
     for _ in 0..count {

@@ -105,7 +105,7 @@ fn a_member_answers(rt: HostRuntime) -> Result<(), Fail> {
     assert!(rt; member.ident(rt.alloc())?.is_some());
     assert!(rt; !member.contains_attribute(&Attribute::Const));
     for attribute in member.attributes() {
-        // By content, wherever the two stand.
+        // By content, wherever the two are.
         assert!(rt; member.contains_attribute(attribute.node()));
     }
     Ok(())

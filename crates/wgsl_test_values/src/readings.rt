@@ -240,7 +240,7 @@ fn told_of_list(rt: &impl Abort, alloc: Global, source: &str) -> Result<String, 
     }
 }
 
-/// The lists stand after a name. No list of a text has a checked fault.
+/// The lists are after a name. No list of a text has a checked fault.
 #[test]
 fn template_lists_are_read_from_tokens(rt: HostRuntime) -> Result<(), Fail> {
     for (source, text) in [

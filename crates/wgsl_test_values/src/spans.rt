@@ -1,4 +1,4 @@
-//! Places, and nodes that stand at one.
+//! Places, and nodes that are at one.
 
 use std::test::Fail;
 use wgsl_span::{Span, Spanned};
@@ -22,7 +22,7 @@ fn nodes(rt: HostRuntime) -> Result<(), Fail> {
     Ok(())
 }
 
-/// Where two nodes stand does not tell them apart.
+/// Where two nodes are does not tell them apart.
 #[test]
 fn nodes_elsewhere_are_equal(rt: HostRuntime) -> Result<(), Fail> {
     let first = Spanned::with_default_span(rt.alloc(), 31u32)?;

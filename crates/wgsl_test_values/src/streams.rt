@@ -101,7 +101,7 @@ impl Write for Narrow {
     }
 }
 
-/// The status of `wgslfmt` with so many arguments.
+/// The status of `wgslfmt` with a number of arguments.
 fn start<R: Read, W: Write, E: Write>(
     alloc: Global,
     arguments: usize,

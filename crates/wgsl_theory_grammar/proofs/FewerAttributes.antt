@@ -34,8 +34,8 @@ module _ {M : Mode} {D : WrittenRelation} where
   before_keeps : {A : Type 0} {c : ℕ} {g h : Rule A} → Keeps M D g h → Keeps M D (c ▹ g) (c ▹ h)
   before_keeps G = gives_keeps (then_keeps same G)
 
-  behind_keeps : {A : Type 0} {c : ℕ} {g h : Rule A} → Keeps M D g h → Keeps M D (g ◃ c) (h ◃ c)
-  behind_keeps G = gives_keeps (then_keeps G same)
+  after_keeps : {A : Type 0} {c : ℕ} {g h : Rule A} → Keeps M D g h → Keeps M D (g ◃ c) (h ◃ c)
+  after_keeps G = gives_keeps (then_keeps G same)
 
   -- no attribute is a list of attributes
   leading_keeps : Keeps M D (leading recognized) (leading parsed)
@@ -58,12 +58,12 @@ module _ {M : Mode} {D : WrittenRelation} where
   rule_keeps discard_statement = led_keeps same
   rule_keeps assignment = gives_keeps (then_keeps left_side_keeps same)
   rule_keeps phony_assignment = led_keeps same
-  rule_keeps increment = gives_keeps (behind_keeps left_side_keeps)
-  rule_keeps decrement = gives_keeps (behind_keeps left_side_keeps)
+  rule_keeps increment = gives_keeps (after_keeps left_side_keeps)
+  rule_keeps decrement = gives_keeps (after_keeps left_side_keeps)
   rule_keeps const_assert = led_keeps same
   rule_keeps switch_clause = led_keeps same
   rule_keeps continuing_statement = led_keeps (gives_keeps (before_keeps (then_keeps same
-      (before_keeps (behind_keeps (then_keeps same (or_keeps (gives_keeps (led_keeps same)) same)))))))
+      (before_keeps (after_keeps (then_keeps same (or_keeps (gives_keeps (led_keeps same)) same)))))))
   rule_keeps const_declaration = led_keeps same
   rule_keeps alias_declaration = led_keeps same
   rule_keeps struct_declaration = led_keeps same

@@ -1,4 +1,4 @@
--- The four checked symbols stand apart, and what is read of them is what is faulty.
+-- The four checked symbols are apart, and what is read of them is what is faulty.
 use Rattle.std.proofs.Common.{◌≡◌, ℕ, zero, suc, true, false, eqb, List, [], ◌∷◌, inl, inr, refl, sym, ap, subst, ◌∙◌}
 use Rattle.std.specs.Prelude.{Option, Some, None}
 use Rattle.grammar.specs.Tokens.{Payload.nothing, Token, Span, Fault, span_between}
@@ -66,7 +66,7 @@ ends_with m = optional (symbol m)
 abbrev a_token : ℕ → Token
 a_token c = record { class = c; payload = nothing; start = 0; end = 0 }
 
--- a `(` behind `@` and a name goes on
+-- a `(` after `@` and a name goes on
 opened : (a b t : Token) → is_among a.class (SymAttr ∷ []) ≡ true → is_among b.class attribute_names ≡ true
     → is_among t.class (SymParenLeft ∷ []) ≡ true → IsViable body (of attribute) (a ∷ b ∷ t ∷ [])
 opened a b t p q r =
@@ -96,7 +96,7 @@ opened a b t p q r =
 abbrev AttributeIs : Parenthesized → List Token → List Token → Type 0
 AttributeIs v xs ys = Means unchecked (Part unchecked body) (body (of attribute)) v xs ys
 
--- an attribute that goes no further has arguments, or no `(` behind it
+-- an attribute that goes no further has arguments, or no `(` after it
 pub attribute_closed : (v : Parenthesized) (xs ys : List Token) → AttributeIs v xs ys
     → IsEnded body (of attribute) xs ys → Closed (firsts (of arguments)) v.node.arguments ys
 attribute_closed v xs ys (c, (p, e, (q, g, (ms, (m1, e1), (us, (m2, e2), m))))) i =
@@ -142,7 +142,7 @@ attributes_guarded = record {
 }
 
 -- ---- `var` and its template
--- the `<` of a template behind `var` goes on
+-- the `<` of a template after `var` goes on
 var_opened : (a t : Token) → is_among a.class (KwVar ∷ []) ≡ true
     → is_among t.class (TemplateArgsStart ∷ []) ≡ true → IsViable body (of var_template) (a ∷ t ∷ [])
 var_opened a t p r =

@@ -1,4 +1,4 @@
--- What the reader on lists answers of a list of tokens and how it ended.
+-- What the reader on lists returns of a list of tokens and how it ended.
 use Rattle.std.specs.Prelude.{◌≡◌, ◌==◌, if◌then◌else◌, List, [], ◌∷◌, ◌++◌}
 use Rattle.grammar.specs.Tokens.{Payload.nothing, Token, Fault, last_end}
 use Rattle.grammar.specs.Grammar.{Mode.checking, Derives}
@@ -24,11 +24,11 @@ answer_said ts ending (stuck (t ∷ us)) = denied (unexpected_token t)
 answer_said ts ending (bad x us) = denied x
 answer_said ts ending out = denied (unexpected_end (last_end 0 ts))
 
--- the `(` that stands behind tokens that ended because memory was refused
+-- the `(` that is after tokens that ended because an allocation failed
 abbrev pub opening : Token
 opening = record { class = SymParenLeft; payload = nothing; start = 0; end = 0 }
 
--- what an outcome says of tokens that ended so, with that `(` behind them
+-- what an outcome says of tokens that ended so, with that `(` after them
 abbrev pub answer_in_want : {A : Type 0} → Fault → Outcome A → Answer A
 answer_in_want x (ok v []) = denied x
 answer_in_want x (ok v (t ∷ [])) = denied x
@@ -39,7 +39,7 @@ answer_in_want x (stuck (t ∷ (u ∷ us))) = denied (unexpected_token t)
 answer_in_want x (bad y us) = denied y
 answer_in_want x out = denied x
 
--- what the reader answers
+-- what the reader returns
 abbrev pub answer_of : (n : Symbol) → List Token → Ending → Answer (Value n)
 answer_of n ts finished = answer_said ts finished (read_all tables checking body rank_limit (of n) ts)
 answer_of n ts (carried x) =
@@ -53,7 +53,7 @@ abbrev pub IsAnswer : (n : Symbol) → List Token → Ending → Answer (Value n
 IsAnswer n ts ending (accepted v) = (ending ≡ finished) × Derives checking written n v ts
 IsAnswer n ts ending (denied x) = IsNamed n ts ending x
 
--- what the reader of a dialect answers where nothing is checked, so that no end is read in another
+-- what the reader of a dialect returns where nothing is checked, so that no end is read in another
 -- way
 abbrev pub unchecked_answer_of : Dialect → (n : Symbol) → List Token → Ending → Answer (Value n)
 unchecked_answer_of L n ts ending = answer_said ts ending

@@ -19,7 +19,7 @@ use Rattle.wgsl_model.specs.Grammar.Written.{rules}
 
 -- symbols beside the written ones: each is what a part of a rule reads
 pub data Further : Type 0 where
-  -- list(X) with the token that closes it; what may follow behind a comma; what may follow behind
+  -- list(X) with the token that closes it; what may follow after a comma; what may follow after
   -- an X
   template_items template_rest template_more argument_rest argument_more member_items member_rest member_more : Further
   parameter_rest parameter_more name_items name_rest name_more : Further
@@ -31,7 +31,7 @@ pub data Further : Type 0 where
   -- attributes; statements, clauses and parts of a header with the token that closes them
   attribute_list statement_rest loop_rest continuing_rest clause_rest else_rest init_part
       condition_part update_part : Further
-  -- behind their attributes, from their first word on: statements that end with a block, and all of
+  -- after their attributes, from their first word on: statements that end with a block, and all of
   -- these
   if_part switch_part loop_part for_part while_part block_part braced_part : Further
   -- statements that end with `;`, without it; all of these save `break`, with it
@@ -44,10 +44,10 @@ pub data Further : Type 0 where
   -- what never has attributes: an assignment, increment or decrement that begins with `(`, without
   -- its `;`; such a statement with it, or an empty one
   parenthesized_statement plain_statement : Further
-  -- declarations and directives behind their attributes, from their first word on
+  -- declarations and directives after their attributes, from their first word on
   var_part override_part function_part const_part alias_part struct_part enable_part requires_part
       diagnostic_part : Further
-  -- declarations that have attributes in both dialects, the others, and directives, each behind its
+  -- declarations that have attributes in both dialects, the others, and directives, each after its
   -- attributes
   attributed_part led_part directive_part : Further
   -- all declarations; all directives and declarations
@@ -181,12 +181,12 @@ abbrev pub closed_optional : {N : Type 0} {V : N → Type 0} {A : Type 0} → �
 closed_optional close x = close means None or x ◃ close gives λ a. Some a
 
 -- ---- expressions, from a first operand on
--- a component and its end, behind a base
+-- a component and its end, after a base
 abbrev pub grown_by_component : Growth → (ExpressionNode → Expression) × ℕ → Span → Growth
 grown_by_component f (make, last) span base = placed_expression (make (f base))
     (record { start = start_of (f base); end = last })
 
--- an operator and an operand behind an operand
+-- an operator and an operand after an operand
 abbrev pub with_operand : BinaryOperator × ExpressionNode → Growth
 with_operand (operator, operand) left = binary_of left (operator, operand)
     (record { start = start_of left; end = end_of operand })
@@ -207,7 +207,7 @@ any_more item = left_chain grown unchanged item
 abbrev pub one_more : {N : Type 0} {V : N → Type 0} → Grammar N V (BinaryOperator × ExpressionNode) → Grammar N V Growth
 one_more item = item gives with_operand
 
--- further operands behind one operator, one at least
+-- further operands after one operator, one at least
 abbrev pub some_more : {N : Type 0} {V : N → Type 0} → ℕ → BinaryOperator
     → Grammar N V ExpressionNode → Grammar N V Growth
 some_more class operator x = left_chain grown (one_more (class means operator then x)) (class means operator then x)
@@ -217,8 +217,8 @@ abbrev pub call_or_type : TypeExpression × Option (List ExpressionNode) → Exp
 call_or_type (t, None) = Expression.type_or_identifier t
 call_or_type (t, Some es) = Expression.function_call (call_of (t, es))
 
--- ---- attributes first, then the word that stands behind them decides
--- attributes, and what stands behind
+-- ---- attributes first, then the word that is after them decides
+-- attributes, and what is after
 abbrev pub attributes_before : {A B : Type 0} → (Attributes → A → B) → FactoredRule A → FactoredRule B
 attributes_before make g = symbol (further attribute_list) then g gives λ (a, x). make a x
 
@@ -227,15 +227,15 @@ abbrev pub leading_list : Dialect → FactoredRule Attributes
 leading_list parsed = symbol (further attribute_list)
 leading_list recognized = empty []
 
--- the same, and what stands behind
+-- the same, and what is after
 abbrev pub leading_before : {A B : Type 0} → Dialect → (Attributes → A → B) → FactoredRule A → FactoredRule B
 leading_before L make g = leading_list L then g gives λ (a, x). make a x
 
--- attributes, and one of two behind them; the second has none where a text is recognised alone
-abbrev pub either_behind : {A B : Type 0} → Dialect → (Attributes → A → B) → FactoredRule A
+-- attributes, and one of two after them; the second has none where a text is recognised alone
+abbrev pub either_after : {A B : Type 0} → Dialect → (Attributes → A → B) → FactoredRule A
     → FactoredRule A → FactoredRule B
-either_behind parsed make g h = attributes_before make (g or h)
-either_behind recognized make g h = attributes_before make g or leading_before recognized make h
+either_after parsed make g h = attributes_before make (g or h)
+either_after recognized make g h = attributes_before make g or leading_before recognized make h
 
 -- a part with its place
 abbrev pub with_place : {A : Type 0} → FactoredRule A → FactoredRule (A × Span)
@@ -245,12 +245,12 @@ with_place g = g makes λ v span. (v, span)
 abbrev pub taken_by : {B : Type 0} → Attributes → (Attributes → B) → B
 taken_by a f = f a
 
--- attributes, and behind them another part, or an item of one of two kinds and the rest; the other
+-- attributes, and after them another part, or an item of one of two kinds and the rest; the other
 -- part and the second kind have none where a text is recognised alone
-abbrev pub items_behind : {A R B : Type 0} → Dialect → ((A × Span) × R → Attributes → B)
+abbrev pub items_after : {A R B : Type 0} → Dialect → ((A × Span) × R → Attributes → B)
     → FactoredRule A → FactoredRule A → FactoredRule R → FactoredRule (Attributes → B) → FactoredRule B
-items_behind parsed put g h rest other = attributes_before taken_by (other or with_place (g or h) then rest gives put)
-items_behind recognized put g h rest other = attributes_before taken_by (with_place g then rest gives put)
+items_after parsed put g h rest other = attributes_before taken_by (other or with_place (g or h) then rest gives put)
+items_after recognized put g h rest other = attributes_before taken_by (with_place g then rest gives put)
     or leading_before recognized taken_by (other or with_place h then rest gives put)
 
 -- a place, from the first of the attributes before it on
@@ -258,23 +258,23 @@ abbrev pub begun_by : Attributes → Span → Span
 begun_by [] span = span
 begun_by (a ∷ more) span = record { start = a.span.start; end = span.end }
 
--- a statement of its attributes, and of what stands behind them with its place
-abbrev pub statement_behind : Attributes → UnattributedStatement × Span → StatementNode
-statement_behind a (s, span) = placed_statement (statement a s) (begun_by a span)
+-- a statement of its attributes, and of what is after them with its place
+abbrev pub statement_after : Attributes → UnattributedStatement × Span → StatementNode
+statement_after a (s, span) = placed_statement (statement a s) (begun_by a span)
 
 -- the same, before the rest of a block
 abbrev pub statement_first : {E : Type 0} → (UnattributedStatement × Span) × (List StatementNode × E)
     → Attributes → List StatementNode × E
-statement_first (s, (statements, last)) a = (statement_behind a s ∷ statements, last)
+statement_first (s, (statements, last)) a = (statement_after a s ∷ statements, last)
 
--- a declaration of its attributes, and of what stands behind them with its place
-abbrev pub declaration_behind : Attributes → UnattributedDeclaration × Span → Spanned GlobalDeclaration
-declaration_behind a (d, span) = spanned (with_attributes a d) (begun_by a span)
+-- a declaration of its attributes, and of what is after them with its place
+abbrev pub declaration_after : Attributes → UnattributedDeclaration × Span → Spanned GlobalDeclaration
+declaration_after a (d, span) = spanned (with_attributes a d) (begun_by a span)
 
 -- the same, before further declarations
 abbrev pub declaration_first : (UnattributedDeclaration × Span) × List (Spanned GlobalDeclaration)
     → Attributes → List GlobalDirective × List (Spanned GlobalDeclaration)
-declaration_first (d, declarations) a = ([], declaration_behind a d ∷ declarations)
+declaration_first (d, declarations) a = ([], declaration_after a d ∷ declarations)
 
 -- ---- statements
 -- a name as a left side, and a call of it
@@ -354,13 +354,13 @@ further_body L statement_rest = SymBraceRight means []
 further_body L loop_rest = SymBraceRight means ([], None)
     or symbol (further plain_statement) then symbol (further loop_rest)
     gives (λ (s, (statements, last)). (s ∷ statements, last))
-    or items_behind L statement_first (symbol (further braced_part))
+    or items_after L statement_first (symbol (further braced_part))
     (symbol (further ended_part) or break_part) (symbol (further loop_rest))
     (symbol (further continuing_part) ◃ SymBraceRight gives with_continuing)
 further_body L continuing_rest = SymBraceRight means ([], None)
     or symbol (further plain_statement) then symbol (further continuing_rest)
     gives (λ (s, (statements, last)). (s ∷ statements, last))
-    or items_behind L statement_first (symbol (further braced_part)) (symbol (further ended_part))
+    or items_after L statement_first (symbol (further braced_part)) (symbol (further ended_part))
     (symbol (further continuing_rest))
     (one_token KwBreak then (one_token SymSemicolon then symbol (further continuing_rest) gives with_break
     or KwIf ▹ symbol (of expression) ◃ SymSemicolon ◃ SymBraceRight gives with_condition) gives λ (b, more). more b)
@@ -470,7 +470,7 @@ further_body L directive_part = symbol (further enable_part) or symbol (further 
 further_body L declaration_list = many (symbol (of global_declaration))
 further_body L front =
     void_declaration then symbol (further declaration_list) gives (λ (d, declarations). ([], d ∷ declarations))
-    or items_behind L declaration_first (symbol (further attributed_part))
+    or items_after L declaration_first (symbol (further attributed_part))
     (symbol (further led_part)) (symbol (further declaration_list))
     (symbol (further directive_part) then symbol (further front) gives directive_first)
     or empty ([], [])
@@ -497,7 +497,7 @@ factored L (of lhs_expression) =
     (symbol (of ident) makes variable_at) then symbol (further components) gives (λ (left, growth). growth left)
     or symbol (further prefixed_left_side) or symbol (further left_side_in_parentheses)
 factored L (of compound_statement) = attributes_before compound_of (SymBraceLeft ▹ symbol (further statement_rest))
-factored L (of statement) = symbol (further plain_statement) or either_behind L statement
+factored L (of statement) = symbol (further plain_statement) or either_after L statement
     (symbol (further braced_part)) (symbol (further ended_part) or break_part) makes placed_statement
 factored L (of return_statement) = leading_before L statement (symbol (further returning_part))
 factored L (of if_statement) = attributes_before statement (symbol (further if_part))
@@ -528,7 +528,7 @@ factored L (of formal_parameter) =
     symbol (further attribute_list) then symbol (of ident) ◃ SymColon then symbol (of type_specifier)
     gives parameter_of
 factored L (of global_declaration) = void_declaration
-    or either_behind L with_attributes (symbol (further attributed_part)) (symbol (further led_part)) makes spanned
+    or either_after L with_attributes (symbol (further attributed_part)) (symbol (further led_part)) makes spanned
 factored L (of var_declaration) = attributes_before with_attributes (symbol (further var_part))
 factored L (of const_declaration) = leading_before L with_attributes (symbol (further const_part))
 factored L (of override_declaration) = attributes_before with_attributes (symbol (further override_part))

@@ -53,7 +53,7 @@ expression_growth L = some_more SymAnd bitwise_and (symbol unary_expression)
     or some_more SymOrOr short_circuit_or (symbol relational_expression) or unchanged)
     gives λ (sum, (relation, more)) left. more (relation (sum left))
 
--- components behind a base
+-- components after a base
 abbrev pub component_growth : Rule Growth
 component_growth = left_chain grown_by_component unchanged (symbol component makes λ c span. (c, span.end))
 
@@ -67,7 +67,7 @@ left_side_growth = assignment_operator then symbol expression
 abbrev pub parenthesized_growth : Rule UnattributedStatement
 parenthesized_growth = parenthesized_left_side then left_side_growth gives λ (left, rest). rest left
 
--- statements that end with `;`, behind their attributes
+-- statements that end with `;`, after their attributes
 abbrev pub phony_kind : Rule UnattributedStatement
 phony_kind = (one_token SymUnderscore makes underscore_at) then initializer
     gives λ (left, right). assignment_of left equal right

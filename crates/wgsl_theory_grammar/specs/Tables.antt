@@ -210,62 +210,62 @@ empties (further declaration_list) = true
 empties (further front) = true
 empties n = false
 
--- the classes that could go on behind singular_expression, unary_expression
-abbrev pub behind_singular_expression : List ℕ
-behind_singular_expression = SymBracketLeft ∷ SymPeriod ∷ SymParenLeft ∷ TemplateArgsStart ∷ []
+-- the classes that could go on after singular_expression, unary_expression
+abbrev pub after_singular_expression : List ℕ
+after_singular_expression = SymBracketLeft ∷ SymPeriod ∷ SymParenLeft ∷ TemplateArgsStart ∷ []
 
--- the classes that could go on behind multiplicative_expression, negated_expression, factors
-abbrev pub behind_multiplicative_expression : List ℕ
-behind_multiplicative_expression = SymForwardSlash ∷ SymBracketLeft ∷ SymModulo ∷ SymPeriod
+-- the classes that could go on after multiplicative_expression, negated_expression, factors
+abbrev pub after_multiplicative_expression : List ℕ
+after_multiplicative_expression = SymForwardSlash ∷ SymBracketLeft ∷ SymModulo ∷ SymPeriod
     ∷ SymParenLeft ∷ SymStar ∷ TemplateArgsStart ∷ []
 
--- the classes that could go on behind additive_expression, summands
-abbrev pub behind_additive_expression : List ℕ
-behind_additive_expression = SymForwardSlash ∷ SymBracketLeft ∷ SymModulo ∷ SymMinus ∷ SymMinusMinus
+-- the classes that could go on after additive_expression, summands
+abbrev pub after_additive_expression : List ℕ
+after_additive_expression = SymForwardSlash ∷ SymBracketLeft ∷ SymModulo ∷ SymMinus ∷ SymMinusMinus
     ∷ SymPeriod ∷ SymPlus ∷ SymParenLeft ∷ SymStar ∷ TemplateArgsStart ∷ []
 
--- the classes that could go on behind shift_expression, sum_rest
-abbrev pub behind_shift_expression : List ℕ
-behind_shift_expression = SymForwardSlash ∷ SymBracketLeft ∷ SymShiftRight ∷ SymShiftLeft ∷ SymModulo
+-- the classes that could go on after shift_expression, sum_rest
+abbrev pub after_shift_expression : List ℕ
+after_shift_expression = SymForwardSlash ∷ SymBracketLeft ∷ SymShiftRight ∷ SymShiftLeft ∷ SymModulo
     ∷ SymMinus ∷ SymMinusMinus ∷ SymPeriod ∷ SymPlus ∷ SymParenLeft ∷ SymStar ∷ TemplateArgsStart ∷ []
 
--- the classes that could go on behind relational_expression, relation_rest
-abbrev pub behind_relational_expression : List ℕ
-behind_relational_expression = SymForwardSlash ∷ SymBracketLeft ∷ SymEqualEqual ∷ SymNotEqual
+-- the classes that could go on after relational_expression, relation_rest
+abbrev pub after_relational_expression : List ℕ
+after_relational_expression = SymForwardSlash ∷ SymBracketLeft ∷ SymEqualEqual ∷ SymNotEqual
     ∷ SymGreaterThan ∷ SymGreaterThanEqual ∷ SymShiftRight ∷ SymLessThan ∷ SymLessThanEqual
     ∷ SymShiftLeft ∷ SymModulo ∷ SymMinus ∷ SymMinusMinus ∷ SymPeriod ∷ SymPlus ∷ SymParenLeft
     ∷ SymStar ∷ TemplateArgsStart ∷ []
 
--- the classes that could go on behind expression, value_statement, assignment, phony_assignment,
+-- the classes that could go on after expression, value_statement, assignment, phony_assignment,
 -- const_assert, case_selector, for_update, expression_rest, value_part, phony_part, simple_part,
 -- assert_part, left_side_rest, name_rest_statement, parenthesized_statement
-abbrev pub behind_expression : List ℕ
-behind_expression = SymAnd ∷ SymAndAnd ∷ SymForwardSlash ∷ SymBracketLeft ∷ SymEqualEqual
+abbrev pub after_expression : List ℕ
+after_expression = SymAnd ∷ SymAndAnd ∷ SymForwardSlash ∷ SymBracketLeft ∷ SymEqualEqual
     ∷ SymNotEqual ∷ SymGreaterThan ∷ SymGreaterThanEqual ∷ SymShiftRight ∷ SymLessThan
     ∷ SymLessThanEqual ∷ SymShiftLeft ∷ SymModulo ∷ SymMinus ∷ SymMinusMinus ∷ SymPeriod ∷ SymPlus
     ∷ SymOr ∷ SymOrOr ∷ SymParenLeft ∷ SymStar ∷ SymXor ∷ TemplateArgsStart ∷ []
 
--- the classes that could go on behind return_statement, returning_part
-abbrev pub behind_return_statement : List ℕ
-behind_return_statement = SymAnd ∷ SymAndAnd ∷ SymForwardSlash ∷ SymBang ∷ SymBracketLeft
+-- the classes that could go on after return_statement, returning_part
+abbrev pub after_return_statement : List ℕ
+after_return_statement = SymAnd ∷ SymAndAnd ∷ SymForwardSlash ∷ SymBang ∷ SymBracketLeft
     ∷ SymEqualEqual ∷ SymNotEqual ∷ SymGreaterThan ∷ SymGreaterThanEqual ∷ SymShiftRight ∷ SymLessThan
     ∷ SymLessThanEqual ∷ SymShiftLeft ∷ SymModulo ∷ SymMinus ∷ SymMinusMinus ∷ SymPeriod ∷ SymPlus
     ∷ SymOr ∷ SymOrOr ∷ SymParenLeft ∷ SymStar ∷ SymTilde ∷ SymXor ∷ KwFalse ∷ KwTrue ∷ Ident
     ∷ ReservedWord ∷ AbstractInt ∷ I32 ∷ U32 ∷ AbstractFloat ∷ F32 ∷ F16 ∷ TemplateArgsStart ∷ []
 
--- the classes that could go on behind var_statement, for_init, local_part
-abbrev pub behind_var_statement : List ℕ
-behind_var_statement = SymAnd ∷ SymAndAnd ∷ SymForwardSlash ∷ SymBracketLeft ∷ SymColon ∷ SymEqual
+-- the classes that could go on after var_statement, for_init, local_part
+abbrev pub after_var_statement : List ℕ
+after_var_statement = SymAnd ∷ SymAndAnd ∷ SymForwardSlash ∷ SymBracketLeft ∷ SymColon ∷ SymEqual
     ∷ SymEqualEqual ∷ SymNotEqual ∷ SymGreaterThan ∷ SymGreaterThanEqual ∷ SymShiftRight ∷ SymLessThan
     ∷ SymLessThanEqual ∷ SymShiftLeft ∷ SymModulo ∷ SymMinus ∷ SymMinusMinus ∷ SymPeriod ∷ SymPlus
     ∷ SymOr ∷ SymOrOr ∷ SymParenLeft ∷ SymStar ∷ SymXor ∷ TemplateArgsStart ∷ []
 
--- the classes that could go on behind unit, front
-abbrev pub behind_unit : List ℕ
-behind_unit = SymAttr ∷ SymSemicolon ∷ KwAlias ∷ KwConst ∷ KwConstAssert ∷ KwDiagnostic ∷ KwEnable
+-- the classes that could go on after unit, front
+abbrev pub after_unit : List ℕ
+after_unit = SymAttr ∷ SymSemicolon ∷ KwAlias ∷ KwConst ∷ KwConstAssert ∷ KwDiagnostic ∷ KwEnable
     ∷ KwFn ∷ KwOverride ∷ KwRequires ∷ KwStruct ∷ KwVar ∷ []
 
--- the classes that could go on behind each symbol
+-- the classes that could go on after each symbol
 abbrev pub mores : FactoredSymbol → List ℕ
 mores (of type_specifier) = TemplateArgsStart ∷ []
 mores (of expressions) = SymAnd ∷ SymAndAnd ∷ SymForwardSlash ∷ SymBang ∷ SymBracketLeft ∷ SymComma
@@ -274,32 +274,32 @@ mores (of expressions) = SymAnd ∷ SymAndAnd ∷ SymForwardSlash ∷ SymBang �
     ∷ SymOr ∷ SymOrOr ∷ SymParenLeft ∷ SymStar ∷ SymTilde ∷ SymXor ∷ KwFalse ∷ KwTrue ∷ Ident
     ∷ ReservedWord ∷ AbstractInt ∷ I32 ∷ U32 ∷ AbstractFloat ∷ F32 ∷ F16 ∷ TemplateArgsStart ∷ []
 mores (of primary_expression) = SymParenLeft ∷ TemplateArgsStart ∷ []
-mores (of singular_expression) = behind_singular_expression
-mores (of unary_expression) = behind_singular_expression
-mores (of multiplicative_expression) = behind_multiplicative_expression
-mores (of negated_expression) = behind_multiplicative_expression
-mores (of additive_expression) = behind_additive_expression
-mores (of shift_expression) = behind_shift_expression
-mores (of relational_expression) = behind_relational_expression
-mores (of expression) = behind_expression
+mores (of singular_expression) = after_singular_expression
+mores (of unary_expression) = after_singular_expression
+mores (of multiplicative_expression) = after_multiplicative_expression
+mores (of negated_expression) = after_multiplicative_expression
+mores (of additive_expression) = after_additive_expression
+mores (of shift_expression) = after_shift_expression
+mores (of relational_expression) = after_relational_expression
+mores (of expression) = after_expression
 mores (of lhs_expression) = SymBracketLeft ∷ SymPeriod ∷ []
 mores (of attribute) = SymParenLeft ∷ []
 mores (of statement) = KwElse ∷ []
-mores (of return_statement) = behind_return_statement
+mores (of return_statement) = after_return_statement
 mores (of if_statement) = KwElse ∷ []
-mores (of var_statement) = behind_var_statement
-mores (of value_statement) = behind_expression
-mores (of assignment) = behind_expression
-mores (of phony_assignment) = behind_expression
-mores (of const_assert) = behind_expression
-mores (of case_selector) = behind_expression
-mores (of for_init) = behind_var_statement
-mores (of for_update) = behind_expression
+mores (of var_statement) = after_var_statement
+mores (of value_statement) = after_expression
+mores (of assignment) = after_expression
+mores (of phony_assignment) = after_expression
+mores (of const_assert) = after_expression
+mores (of case_selector) = after_expression
+mores (of for_init) = after_var_statement
+mores (of for_update) = after_expression
 mores (of var_template) = TemplateArgsStart ∷ []
 mores (of typed_ident) = SymColon ∷ TemplateArgsStart ∷ []
 mores (of struct_member) = TemplateArgsStart ∷ []
 mores (of formal_parameter) = TemplateArgsStart ∷ []
-mores (of unit) = behind_unit
+mores (of unit) = after_unit
 mores (further selectors) = SymAnd ∷ SymAndAnd ∷ SymForwardSlash ∷ SymBang ∷ SymBracketLeft
     ∷ SymComma ∷ SymEqualEqual ∷ SymNotEqual ∷ SymGreaterThan ∷ SymGreaterThanEqual ∷ SymShiftRight
     ∷ SymLessThan ∷ SymLessThanEqual ∷ SymShiftLeft ∷ SymModulo ∷ SymMinus ∷ SymMinusMinus
@@ -307,10 +307,10 @@ mores (further selectors) = SymAnd ∷ SymAndAnd ∷ SymForwardSlash ∷ SymBang
     ∷ KwFalse ∷ KwTrue ∷ Ident ∷ ReservedWord ∷ AbstractInt ∷ I32 ∷ U32 ∷ AbstractFloat ∷ F32 ∷ F16
     ∷ TemplateArgsStart ∷ []
 mores (further components) = SymBracketLeft ∷ SymPeriod ∷ []
-mores (further factors) = behind_multiplicative_expression
-mores (further summands) = behind_additive_expression
-mores (further sum_rest) = behind_shift_expression
-mores (further relation_rest) = behind_relational_expression
+mores (further factors) = after_multiplicative_expression
+mores (further summands) = after_additive_expression
+mores (further sum_rest) = after_shift_expression
+mores (further relation_rest) = after_relational_expression
 mores (further and_rest) = SymAndAnd ∷ SymForwardSlash ∷ SymBracketLeft ∷ SymEqualEqual
     ∷ SymNotEqual ∷ SymGreaterThan ∷ SymGreaterThanEqual ∷ SymShiftRight ∷ SymLessThan
     ∷ SymLessThanEqual ∷ SymShiftLeft ∷ SymModulo ∷ SymMinus ∷ SymMinusMinus ∷ SymPeriod ∷ SymPlus
@@ -322,25 +322,25 @@ mores (further or_rest) = SymForwardSlash ∷ SymBracketLeft ∷ SymEqualEqual �
 mores (further bitwise_and_rest) = SymAnd ∷ SymBracketLeft ∷ SymPeriod ∷ SymParenLeft ∷ TemplateArgsStart ∷ []
 mores (further bitwise_or_rest) = SymBracketLeft ∷ SymPeriod ∷ SymOr ∷ SymParenLeft ∷ TemplateArgsStart ∷ []
 mores (further bitwise_xor_rest) = SymBracketLeft ∷ SymPeriod ∷ SymParenLeft ∷ SymXor ∷ TemplateArgsStart ∷ []
-mores (further expression_rest) = behind_expression
+mores (further expression_rest) = after_expression
 mores (further attribute_list) = SymAttr ∷ SymParenLeft ∷ []
 mores (further else_rest) = KwElse ∷ []
 mores (further if_part) = KwElse ∷ []
 mores (further braced_part) = KwElse ∷ []
-mores (further returning_part) = behind_return_statement
-mores (further local_part) = behind_var_statement
-mores (further value_part) = behind_expression
-mores (further phony_part) = behind_expression
-mores (further simple_part) = behind_expression
-mores (further assert_part) = behind_expression
-mores (further left_side_rest) = behind_expression
+mores (further returning_part) = after_return_statement
+mores (further local_part) = after_var_statement
+mores (further value_part) = after_expression
+mores (further phony_part) = after_expression
+mores (further simple_part) = after_expression
+mores (further assert_part) = after_expression
+mores (further left_side_rest) = after_expression
 mores (further left_side_in_parentheses) = SymBracketLeft ∷ SymPeriod ∷ []
 mores (further prefixed_left_side) = SymBracketLeft ∷ SymPeriod ∷ []
-mores (further name_rest_statement) = behind_expression
-mores (further parenthesized_statement) = behind_expression
+mores (further name_rest_statement) = after_expression
+mores (further parenthesized_statement) = after_expression
 mores (further declaration_list) = SymAttr ∷ SymSemicolon ∷ KwAlias ∷ KwConst ∷ KwConstAssert ∷ KwFn
     ∷ KwOverride ∷ KwStruct ∷ KwVar ∷ []
-mores (further front) = behind_unit
+mores (further front) = after_unit
 mores n = []
 
 -- how many symbols can follow one another before a token is taken

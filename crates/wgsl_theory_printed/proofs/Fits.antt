@@ -1,6 +1,6 @@
 -- The pieces of sound trees fit before what follows.
 pub mod FittingWords
-pub mod PointBehind
+pub mod PointAfter
 pub mod SoundExpressions
 pub mod FittingSigns
 pub mod FittingExpressions

@@ -1,5 +1,5 @@
 -- The printed text of a derived unit has the tokens that are written from it, so it reads as that
--- unit without its empty items, spans aside.
+-- unit without its empty items, ignoring spans.
 use Rattle.std.proofs.Common.{◌≡◌, ℕ, true, sym, ap, subst, List, [], ◌∙◌, chars}
 use Rattle.std.specs.Str.{is_utf8}
 use Rattle.std.proofs.lemmas.Str.{is_utf8-from_IsUtf8}
@@ -32,7 +32,7 @@ printed_tokens source u h =
     (written_shape source u h (module_words source h.0 finished h.1)) (width text) text
     (unit_along source u h)
 
--- it reads as the unit without its empty items, spans aside
+-- it reads as the unit without its empty items, ignoring spans
 pub printed_parse : (source : List ℕ) (u : TranslationUnit) → IsUnit source u → ReadsBack (print_unit u) u
 printed_parse source u h =
     let found = printed_tokens source u h in
@@ -52,7 +52,7 @@ print_twice source u again h k =
     let back = printed_parse source u h in
     ap print_unit (one_unit (chars (print_unit u)) again back.0 k back.1) ∙ prints_again u back.0 back.2
 
--- the program writes what it wrote as it stands
+-- the program writes what it wrote as it is
 pub formatted_twice : (source : List ℕ) (u : TranslationUnit) → IsUnit source u
     → Formats (print_unit u) (record { status = 0; output = print_unit u; errors = [] })
 formatted_twice source u h =

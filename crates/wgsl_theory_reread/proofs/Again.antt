@@ -1,5 +1,5 @@
 -- What it means that a value is read again: a list of tokens with the kinds that are written from
--- the value derives a value that is the same, spans and empty items aside.
+-- the value derives a value that is the same, ignoring spans and empty items.
 use Rattle.std.proofs.Common.{◌≡◌, Bool, true, false, List, ◌∷◌, map, Option, Some}
 use Rattle.std.specs.Option.{option_map}
 use Rattle.grammar.specs.Tokens.{Token}
@@ -145,7 +145,7 @@ write n v rest = unended_tokens v rest
 abbrev pub same_arguments : Option (List ExpressionNode) → Option (List ExpressionNode)
 same_arguments = option_map (map bare_expression_node)
 
--- what is read again is the same value, spans and empty items aside
+-- what is read again is the same value, ignoring spans and empty items
 abbrev pub Same : (n : Symbol) → Value n → Value n → Type 0
 Same ident w v = text_of w ≡ text_of v
 Same type_specifier w v = bare_type w ≡ bare_type v
@@ -271,13 +271,13 @@ abbrev pub Finds : {A : Type 0} → (A → List Token → List Token → Type 0)
 Finds P Like written_before = (us : List Token) (ks : List Kind)
     → map without_place us ≡ written_before ks → Found P Like us ks
 
--- a component is written behind its base, whatever that is
+-- a component is written after its base, whatever that is
 abbrev pub FindsComponent : (ExpressionNode → Expression) → Type 0
 FindsComponent v = (ks : List Kind) → (ms : List Kind)
     × ((base : ExpressionNode) → expression_tokens (v base) ks ≡ expression_node_tokens base ms)
     × ((us : List Token) → map without_place us ≡ ms → Found (D component) (λ w. Same component w v) us ks)
 
--- a symbol's value is read again; a negated product is read as a product behind a minus
+-- a symbol's value is read again; a negated product is read as a product after a minus
 abbrev pub IsFound : (n : Symbol) → Value n → Type 0
 IsFound component v = FindsComponent v
 IsFound negated_expression v = Finds (D multiplicative_expression)
@@ -285,6 +285,6 @@ IsFound negated_expression v = Finds (D multiplicative_expression)
 IsFound n v = Finds (D n) (λ w. Same n w v) (write n v)
 
 -- a value that a symbol derives from tokens whose words have the classes of their spellings: so are
--- the tokens behind it, and the value is read again
+-- the tokens after it, and the value is read again
 abbrev pub Again : (n : Symbol) → Value n → List Token → List Token → Type 0
 Again n v xs ys = AllWords xs → AllWords ys × Known n v × IsFound n v

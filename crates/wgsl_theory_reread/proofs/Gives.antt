@@ -8,7 +8,7 @@ use Rattle.wgsl_model.specs.Grammar.Symbols.{Symbol, Value, Rule}
 use Rattle.wgsl_theory_grammar.proofs.Faults.Avoids.{AllOf}
 
 -- from tokens of which W holds a symbol derives a value of which S holds, and W holds of the tokens
--- behind it
+-- after it
 abbrev pub Given : (Token → Type 0) → ((n : Symbol) → Value n → Type 0) → (n : Symbol) → Value n
     → List Token → List Token → Type 0
 Given W S n v xs ys = AllOf W xs → AllOf W ys × S n v
@@ -88,12 +88,12 @@ module _ {W : Token → Type 0} {S : (n : Symbol) → Value n → Type 0} where
   anything (symbol n) = weaker_sound (symbol_sound n) (λ v. Unit {0}) (λ v p. tt)
   anything (left_chain f g h) = chain_sound (anything g) (anything h) f (λ a b s p q. tt)
 
-  -- a sign before a part, behind it, or for a value
+  -- a sign before a part, after it, or for a value
   pub sign_before : {A : Type 0} (c : ℕ) {g : Rule A} {P : A → Type 0} → GivesBy W S g P → GivesBy W S (c ▹ g) P
   sign_before c {P = P} G = gives_sound (then_sound (anything (one_token c)) G) (λ p. p.1) P (λ p h. h.1)
 
-  pub sign_behind : {A : Type 0} (c : ℕ) {g : Rule A} {P : A → Type 0} → GivesBy W S g P → GivesBy W S (g ◃ c) P
-  sign_behind c {P = P} G = gives_sound (then_sound G (anything (one_token c))) (λ p. p.0) P (λ p h. h.0)
+  pub sign_after : {A : Type 0} (c : ℕ) {g : Rule A} {P : A → Type 0} → GivesBy W S g P → GivesBy W S (g ◃ c) P
+  sign_after c {P = P} G = gives_sound (then_sound G (anything (one_token c))) (λ p. p.0) P (λ p h. h.0)
 
   pub means_sound : {A : Type 0} (c : ℕ) (a : A) (P : A → Type 0) → P a → GivesBy W S (c means a) P
   means_sound c a P p = gives_sound (anything (one_token c)) (λ t. a) P (λ t h. p)

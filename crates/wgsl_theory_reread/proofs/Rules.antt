@@ -36,7 +36,7 @@ known_by n R v known xs ys d words =
 pub without_known : {A B C : Type 0} → A × B × C → A × C
 without_known found = (found.0, found.2)
 
--- of each symbol but those that are written with what stands before them
+-- of each symbol but those that are written with what is before them
 abbrev pub SymbolReads : Symbol → Type 0
 SymbolReads component = Unit {0}
 SymbolReads negated_expression = Unit {0}

@@ -12,7 +12,7 @@ use Rattle.wgsl_theory_reread.specs.CanonicalUnits.{without_place}
 use Rattle.wgsl_theory_reread.proofs.Words.{AllWords}
 use Rattle.wgsl_theory_reread.proofs.Again.{D, Again, Found, Finds}
 
--- a value that is read again, and the words behind it
+-- a value that is read again, and the words after it
 abbrev pub Outcome : {A : Type 0} → Rule A → Writer A → (A → A → Type 0) → A → List Token → Type 0
 Outcome g writes like v ys = AllWords ys × Finds (Means checking D g) (λ w. like w v) (writes v)
 
@@ -21,9 +21,9 @@ pub record Reads {A : Type 0} (g : Rule A) (writes : Writer A) (like : A → A �
   pub again : (v : A) (xs ys : List Token) → Means checking Again g v xs ys → AllWords xs → Outcome g writes like v ys
 
 -- a list without its first
-abbrev behind_first : List Kind → List Kind
-behind_first [] = []
-behind_first (k ∷ ks) = ks
+abbrev after_first : List Kind → List Kind
+after_first [] = []
+after_first (k ∷ ks) = ks
 
 -- ---- one token
 -- the first token of a list whose kinds begin with a kind
@@ -43,9 +43,9 @@ pub class_of : (k : Kind) (t : Token) (s : List ℕ) → without_place t ≡ k �
     → is_among t.class s ≡ true
 class_of k t s e h = subst (λ (z : Kind). is_among z.class s ≡ true) (sym e) h
 
--- the words behind a token
-pub words_behind : (t : Token) (xs ys : List Token) → xs ≡ t ∷ ys → AllWords xs → AllWords ys
-words_behind t xs ys e h = (subst AllWords e h).1
+-- the words after a token
+pub words_after : (t : Token) (xs ys : List Token) → xs ≡ t ∷ ys → AllWords xs → AllWords ys
+words_after t xs ys e h = (subst AllWords e h).1
 
 -- ---- one after another, or one of two
 pub then_reads : {A B : Type 0} {g : Rule A} {h : Rule B} {writes_1 : Writer A}
@@ -164,11 +164,11 @@ pub equal_reads : {A : Type 0} {g : Rule A} {writes made : Writer A} {like same 
     → ((w v : A) → like w v → same w v) → Reads g made same
 equal_reads {A} G s t = fact_reads {Fact = λ (a : A). Unit {0}} G (λ v xs ys d. tt) (λ v known rest. s v rest) t
 
--- ---- a sign or a keyword, before a part, behind it, or for a value
+-- ---- a sign or a keyword, before a part, after it, or for a value
 pub sign_reads : (c : ℕ) → is_among c (c ∷ []) ≡ true → Reads (one_token c) (λ v rest. plain c ∷ rest) (λ w v. Unit {0})
 sign_reads c known = record {
   again = λ v xs ys d words. (
-    words_behind v xs ys d.1 words,
+    words_after v xs ys d.1 words,
     λ us ks e.
         let first = first_of (plain c) ks us e in
         record {
@@ -186,10 +186,10 @@ pub before_reads : {A : Type 0} (c : ℕ) {g : Rule A} {writes : Writer A} {like
     → Reads (c ▹ g) (λ v rest. plain c ∷ writes v rest) like
 before_reads c known G = gives_reads (then_reads (sign_reads c known) G) (λ a rest. refl) (λ w a h. h.1)
 
-pub behind_reads : {A : Type 0} (c : ℕ) {g : Rule A} {writes : Writer A} {like : A → A → Type 0}
+pub after_reads : {A : Type 0} (c : ℕ) {g : Rule A} {writes : Writer A} {like : A → A → Type 0}
     → is_among c (c ∷ []) ≡ true → Reads g writes like
     → Reads (g ◃ c) (λ v rest. writes v (plain c ∷ rest)) like
-behind_reads c known G = gives_reads (then_reads G (sign_reads c known)) (λ a rest. refl) (λ w a h. h.0)
+after_reads c known G = gives_reads (then_reads G (sign_reads c known)) (λ a rest. refl) (λ w a h. h.0)
 
 pub means_reads : {A : Type 0} (c : ℕ) {a : A} {writes : Writer A} {like : A → A → Type 0}
     → is_among c (c ∷ []) ≡ true → ((rest : List Kind) → writes a rest ≡ plain c ∷ rest) → like a a
@@ -223,18 +223,18 @@ no_sign_reads {c} = record { again = go } where
 
   go : (v : Option Token) (xs ys : List Token) → Means checking Again (optional (one_token c)) v xs ys
       → AllWords xs → Outcome (optional (one_token c)) (λ v rest. rest) (λ w v. Unit {0}) v ys
-  go v xs ys (inl d) words = (words_behind d.0 xs ys d.2.1 words, none)
+  go v xs ys (inl d) words = (words_after d.0 xs ys d.2.1 words, none)
   go v xs ys (inr d) words = (subst AllWords d.1 words, none)
 
 -- ---- one after another
-pub all_behind : {A : Type 0} (writes : Writer A) (xs : List A) (x : A) (rest : List Kind)
+pub all_after : {A : Type 0} (writes : Writer A) (xs : List A) (x : A) (rest : List Kind)
     → all_tokens writes (xs ++ (x ∷ [])) rest ≡ all_tokens writes xs (writes x rest)
-all_behind writes [] x rest = refl
-all_behind writes (y ∷ xs) x rest = ap (writes y) (all_behind writes xs x rest)
+all_after writes [] x rest = refl
+all_after writes (y ∷ xs) x rest = ap (writes y) (all_after writes xs x rest)
 
-pub map_behind : {A B : Type 0} (f : A → B) (xs : List A) (x : A) → map f (xs ++ (x ∷ [])) ≡ map f xs ++ (f x ∷ [])
-map_behind f [] x = refl
-map_behind f (y ∷ xs) x = ap (λ z. f y ∷ z) (map_behind f xs x)
+pub map_after : {A B : Type 0} (f : A → B) (xs : List A) (x : A) → map f (xs ++ (x ∷ [])) ≡ map f xs ++ (f x ∷ [])
+map_after f [] x = refl
+map_after f (y ∷ xs) x = ap (λ z. f y ∷ z) (map_after f xs x)
 
 -- a left chain
 pub chain_reads : {A B : Type 0} {f : A → B → Span → A} {g : Rule A} {h : Rule B}
@@ -272,18 +272,18 @@ pub many_reads : {A B : Type 0} {g : Rule A} {writes : Writer A} {bare kept : A 
     → Reads g writes (λ w v. bare w ≡ kept v)
     → Reads (many g) (all_tokens writes) (λ w v. map bare w ≡ map kept v)
 many_reads {A} {B} {g} {writes} {bare} {kept} G = chain_reads (none_reads (λ rest. refl) refl) G
-    (λ a b span rest. all_behind writes a b rest)
-    (λ w v x y s r h k. map_behind bare w x ∙ ap₂ (λ (z : List B) (u : B). z ++ (u ∷ [])) h k
-    ∙ sym (map_behind kept v y))
+    (λ a b span rest. all_after writes a b rest)
+    (λ w v x y s r h k. map_after bare w x ∙ ap₂ (λ (z : List B) (u : B). z ++ (u ∷ [])) h k
+    ∙ sym (map_after kept v y))
 
 pub several_reads : {A B : Type 0} {g : Rule A} {writes : Writer A} {bare kept : A → B}
     → Reads g writes (λ w v. bare w ≡ kept v)
     → Reads (several g) (all_tokens writes) (λ w v. map bare w ≡ map kept v)
 several_reads {A} {B} {g} {writes} {bare} {kept} G =
     chain_reads (gives_reads G (λ a rest. refl) (λ w a h. ap (λ (z : B). z ∷ []) h)) G
-    (λ a b span rest. all_behind writes a b rest)
-    (λ w v x y s r h k. map_behind bare w x ∙ ap₂ (λ (z : List B) (u : B). z ++ (u ∷ [])) h k
-    ∙ sym (map_behind kept v y))
+    (λ a b span rest. all_after writes a b rest)
+    (λ w v x y s r h k. map_after bare w x ∙ ap₂ (λ (z : List B) (u : B). z ++ (u ∷ [])) h k
+    ∙ sym (map_after kept v y))
 
 -- ---- with a comma between each two
 abbrev pub HasItem : {A : Type 0} → List A → Type 0
@@ -296,18 +296,18 @@ pub has_item : {A : Type 0} (P Q : A → List Token → List Token → Type 0) (
     → Chain (λ (l : List A) (x : A) s. l ++ (x ∷ [])) (λ l us vs. (a : A) × (a ∷ [] ≡ l) × P a us vs) Q xs v ys
     → HasItem v
 has_item {A} P Q xs _ _ (base v ys d) = subst HasItem d.1 tt
-has_item {A} P Q xs _ _ (more v x us ys d i) = behind v where
-  behind : (l : List A) → HasItem (l ++ (x ∷ []))
-  behind [] = tt
-  behind (y ∷ l) = tt
+has_item {A} P Q xs _ _ (more v x us ys d i) = following v where
+  following : (l : List A) → HasItem (l ++ (x ∷ []))
+  following [] = tt
+  following (y ∷ l) = tt
 
--- items that each stand behind a comma, without the first comma
+-- items that each are after a comma, without the first comma
 abbrev pub items_tokens : {A : Type 0} → Writer A → Writer (List A)
-items_tokens writes xs rest = behind_first (further_tokens writes xs rest)
+items_tokens writes xs rest = after_first (further_tokens writes xs rest)
 
-pub items_behind : {A : Type 0} (writes : Writer A) (xs : List A) (x : A) (rest : List Kind)
+pub items_after : {A : Type 0} (writes : Writer A) (xs : List A) (x : A) (rest : List Kind)
     → items_tokens writes (xs ++ (x ∷ [])) rest ≡ items_tokens writes xs (plain SymComma ∷ writes x rest)
-items_behind {A} writes xs x rest = ap behind_first (further xs) where
+items_after {A} writes xs x rest = ap after_first (further xs) where
   further : (l : List A)
       → further_tokens writes (l ++ (x ∷ [])) rest ≡ further_tokens writes l (plain SymComma ∷ writes x rest)
   further [] = refl
@@ -324,9 +324,9 @@ pub separated_reads : {A B : Type 0} {g : Rule A} {writes : Writer A} {bare kept
 separated_reads {A} {B} {g} {writes} {bare} {kept} G =
     fact_reads {Fact = HasItem} (chain_reads {writes = items_tokens writes}
     (gives_reads G (λ a rest. refl) (λ w a h. ap (λ (z : B). z ∷ []) h))
-    (before_reads SymComma refl G) (λ a b span rest. items_behind writes a b rest)
-    (λ w v x y s r h k. map_behind bare w x ∙ ap₂ (λ (z : List B) (u : B). z ++ (u ∷ [])) h k
-    ∙ sym (map_behind kept v y)))
+    (before_reads SymComma refl G) (λ a b span rest. items_after writes a b rest)
+    (λ w v x y s r h k. map_after bare w x ∙ ap₂ (λ (z : List B) (u : B). z ++ (u ∷ [])) h k
+    ∙ sym (map_after kept v y)))
     (λ v xs ys d. has_item (Means checking Again g) (Means checking Again (SymComma ▹ g)) xs v ys d)
     (items_written writes) (λ w v h. h)
 
@@ -348,7 +348,7 @@ list_reads {A} {B} {g} {writes} {bare} {kept} G = record { again = go } where
   go v xs ys (inr d) words =
       let found = (separated_reads G).again d.0.0 xs d.2.0 d.2.1 words in
       subst (λ (z : List A). Outcome (list SymComma g) (list_tokens writes) like z ys) d.1
-      (shorter d.0.0 ys (words_behind d.0.1 d.2.0 ys d.2.2.1 found.0, found.1))
+      (shorter d.0.0 ys (words_after d.0.1 d.2.0 ys d.2.2.1 found.0, found.1))
 
 pub list_or_none_reads : {A B : Type 0} {g : Rule A} {writes : Writer A} {bare kept : A → B}
     → Reads g writes (λ w v. bare w ≡ kept v)

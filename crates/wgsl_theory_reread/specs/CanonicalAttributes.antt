@@ -15,9 +15,9 @@ use Rattle.wgsl_theory_reread.specs.CanonicalExpressions.{Writer, optional_token
 abbrev pub parenthesize : {A : Type 0} → Writer A → Writer A
 parenthesize write a rest = plain SymParenLeft ∷ write a (plain SymParenRight ∷ rest)
 
--- a further argument behind a comma
-abbrev pub behind_comma : {A : Type 0} → Writer A → Writer A
-behind_comma write a rest = plain SymComma ∷ write a rest
+-- a further argument after a comma
+abbrev pub after_comma : {A : Type 0} → Writer A → Writer A
+after_comma write a rest = plain SymComma ∷ write a rest
 
 -- the name of a rule, from the bytes that are before and those that are left: a word, or two with
 -- `.` between
@@ -31,7 +31,7 @@ rule_tokens_from before (c ∷ cs) rest = if c == 46
 abbrev pub rule_tokens : Writer (List ℕ)
 rule_tokens rule rest = rule_tokens_from [] rule rest
 
--- further types, each behind `|`
+-- further types, each after `|`
 abbrev pub further_types_tokens : Writer (List TypeExpression)
 further_types_tokens [] rest = rest
 further_types_tokens (t ∷ ts) rest = plain SymOr ∷ type_tokens t (further_types_tokens ts rest)
@@ -53,17 +53,17 @@ named_attribute_tokens (without_argument name) rest = kind_of_word (no_argument_
 named_attribute_tokens (builtin b) rest = kind_of_word (codes "builtin")
     ∷ parenthesize word_token (builtin_value_text b) rest
 named_attribute_tokens (diagnostic d) rest = kind_of_word (codes "diagnostic") ∷ (plain SymParenLeft
-    ∷ (kind_of_word (severity_text d.severity) ∷ behind_comma rule_tokens d.rule (plain SymParenRight ∷ rest)))
+    ∷ (kind_of_word (severity_text d.severity) ∷ after_comma rule_tokens d.rule (plain SymParenRight ∷ rest)))
 named_attribute_tokens (interpolate i) rest =
     kind_of_word (codes "interpolate") ∷ (plain SymParenLeft
-    ∷ (kind_of_word (interpolation_type_text i.ty) ∷ optional_tokens (behind_comma (λ (s : InterpolationSampling).
+    ∷ (kind_of_word (interpolation_type_text i.ty) ∷ optional_tokens (after_comma (λ (s : InterpolationSampling).
     word_token (interpolation_sampling_text s))) i.sampling (plain SymParenRight ∷ rest)))
 named_attribute_tokens (workgroup_size w) rest =
     kind_of_word (codes "workgroup_size")
-    ∷ (plain SymParenLeft ∷ expression_node_tokens w.x (optional_tokens (behind_comma expression_node_tokens)
-    w.y (optional_tokens (behind_comma expression_node_tokens) w.z (plain SymParenRight ∷ rest))))
+    ∷ (plain SymParenLeft ∷ expression_node_tokens w.x (optional_tokens (after_comma expression_node_tokens)
+    w.y (optional_tokens (after_comma expression_node_tokens) w.z (plain SymParenRight ∷ rest))))
 named_attribute_tokens (type_constraint t) rest = kind_of_word (codes "type") ∷ (plain SymParenLeft
-    ∷ (kind_of_word t.ident ∷ behind_comma types_tokens t.variants (plain SymParenRight ∷ rest)))
+    ∷ (kind_of_word t.ident ∷ after_comma types_tokens t.variants (plain SymParenRight ∷ rest)))
 named_attribute_tokens (custom c) rest = kind_of_word c.name ∷ optional_tokens arguments_tokens c.arguments rest
 
 -- an attribute

@@ -1,5 +1,5 @@
 -- The tokens that a printed expression has, written from its tree before the tokens that follow it:
--- no comma behind the last item of a list, and `-` `-` for two minuses.
+-- no comma after the last item of a list, and `-` `-` for two minuses.
 use Rattle.std.specs.Prelude.{ℕ, pos, List, [], ◌∷◌, Option, Some, None, if◌then◌else◌}
 use Rattle.grammar.specs.Tokens.{Payload.number}
 use Rattle.wgsl_model.specs.Tokens.ClassTable.{SymAnd, SymAndAnd, SymBang, SymBracketLeft, SymBracketRight, SymComma, SymEqualEqual, SymForwardSlash, SymGreaterThan, SymGreaterThanEqual, SymLessThan, SymLessThanEqual, SymMinus, SymModulo, SymNotEqual, SymOr, SymOrOr, SymParenLeft, SymParenRight, SymPeriod, SymPlus, SymShiftLeft, SymShiftRight, SymStar, SymTilde, SymXor, KwTrue, KwFalse, AbstractInt, I32, U32, AbstractFloat, F32, F16, TemplateArgsStart, TemplateArgsEnd}
@@ -23,7 +23,7 @@ abbrev pub all_tokens : {A : Type 0} → Writer A → Writer (List A)
 all_tokens write [] rest = rest
 all_tokens write (a ∷ more) rest = write a (all_tokens write more rest)
 
--- further items of a list, each behind a comma
+-- further items of a list, each after a comma
 abbrev pub further_tokens : {A : Type 0} → Writer A → Writer (List A)
 further_tokens write [] rest = rest
 further_tokens write (a ∷ more) rest = plain SymComma ∷ write a (further_tokens write more rest)
@@ -113,7 +113,7 @@ abbrev mutual
   expressions_tokens no_expressions rest = rest
   expressions_tokens (expression_before e es) rest = expression_node_tokens e (further_expressions_tokens es rest)
 
-  -- further expressions, each behind a comma
+  -- further expressions, each after a comma
   pub further_expressions_tokens : ExpressionNodes → List Kind → List Kind
   further_expressions_tokens no_expressions rest = rest
   further_expressions_tokens (expression_before e es) rest = plain SymComma

@@ -1,5 +1,5 @@
 -- The tokens that printed statements and declarations of values have, written from their trees
--- before the tokens that follow them: no empty statement in a list, no colon behind what a clause
+-- before the tokens that follow them: no empty statement in a list, no colon after what a clause
 -- selects, and `case default` for a clause with `default` alone.
 use Rattle.std.specs.Prelude.{ℕ, List, ◌∷◌, Option, if◌then◌else◌}
 use Rattle.wgsl_model.specs.Tokens.ClassTable.{SymAndEqual, SymBraceLeft, SymBraceRight, SymColon, SymDivisionEqual, SymEqual, SymMinusEqual, SymMinusMinus, SymModuloEqual, SymOrEqual, SymParenLeft, SymParenRight, SymPlusEqual, SymPlusPlus, SymSemicolon, SymShiftLeftAssign, SymShiftRightAssign, SymTimesEqual, SymXorEqual, KwBreak, KwCase, KwConst, KwConstAssert, KwContinue, KwContinuing, KwDefault, KwDiscard, KwElse, KwFor, KwIf, KwLet, KwLoop, KwOverride, KwReturn, KwSwitch, KwVar, KwWhile, TemplateArgsStart, TemplateArgsEnd}
@@ -12,13 +12,13 @@ use Rattle.wgsl_model.specs.Trees.Attributed.{Attributed}
 use Rattle.wgsl_model.specs.Trees.Statements.{DeclarationKind, const_kind, override_kind, let_kind, var_kind, Declaration, ConstAssert, BreakIfStatement, CaseSelector, default_selector, expression_selector, StatementNode, statement_node, Statement, statement, UnattributedStatement, void, compound, assignment, increment, decrement, if_statement, switch_statement, loop_statement, for_statement, while_statement, break_statement, continue_statement, discard_statement, return_statement, function_call_statement, const_assert, declaration, CompoundStatement, compound_statement, IfStatement, if_else, IfClause, if_clause, ElseIfClause, else_if_clause, ElseClause, else_clause, SwitchStatement, switch, SwitchClause, switch_clause, LoopStatement, repeat, ContinuingStatement, continuing, ForStatement, repeat_for, WhileStatement, repeat_while, StatementNodes, no_statements, statement_before, ElseIfClauses, no_else_ifs, else_if_before, MaybeElseClause, no_else, one_else, SwitchClauses, no_clauses, clause_before, MaybeContinuing, no_continuing, one_continuing, MaybeStatement, no_statement, one_statement}
 use Rattle.wgsl_model.specs.Printed.Statements.{is_void}
 use Rattle.wgsl_theory_reread.specs.CanonicalExpressions.{Writer, optional_tokens, list_tokens, word_token, expression_node_tokens, call_tokens, type_tokens}
-use Rattle.wgsl_theory_reread.specs.CanonicalAttributes.{behind_comma, attributes_tokens}
+use Rattle.wgsl_theory_reread.specs.CanonicalAttributes.{after_comma, attributes_tokens}
 
 -- ---- declarations of values
 -- the template of a `var`
 abbrev pub var_template_tokens : Writer (AddressSpace × Option AccessMode)
 var_template_tokens p rest = plain TemplateArgsStart
-    ∷ (kind_of_word (address_space_text p.0) ∷ optional_tokens (behind_comma (λ (m : AccessMode).
+    ∷ (kind_of_word (address_space_text p.0) ∷ optional_tokens (after_comma (λ (m : AccessMode).
     word_token (access_mode_text m))) p.1 (plain TemplateArgsEnd ∷ rest))
 
 -- the keyword of a kind of value, and the template of a `var`
@@ -28,11 +28,11 @@ kind_tokens override_kind rest = plain KwOverride ∷ rest
 kind_tokens let_kind rest = plain KwLet ∷ rest
 kind_tokens (var_kind space) rest = plain KwVar ∷ optional_tokens var_template_tokens space rest
 
--- a type behind a colon
+-- a type after a colon
 abbrev pub typed_tokens : Writer TypeExpression
 typed_tokens t rest = plain SymColon ∷ type_tokens t rest
 
--- a value behind an equals sign
+-- a value after an equals sign
 abbrev pub initializer_tokens : Writer ExpressionNode
 initializer_tokens e rest = plain SymEqual ∷ expression_node_tokens e rest
 
@@ -65,7 +65,7 @@ abbrev pub selector_tokens : Writer CaseSelector
 selector_tokens default_selector rest = plain KwDefault ∷ rest
 selector_tokens (expression_selector e) rest = expression_node_tokens e rest
 
--- `break if` and its condition, behind its attributes
+-- `break if` and its condition, after its attributes
 abbrev pub break_if_tokens : Writer (Attributed BreakIfStatement)
 break_if_tokens b rest = attributes_tokens b.attributes
     (plain KwBreak ∷ (plain KwIf ∷ expression_node_tokens b.node.expression (plain SymSemicolon ∷ rest)))

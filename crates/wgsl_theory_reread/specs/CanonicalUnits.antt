@@ -1,5 +1,5 @@
 -- The tokens that a printed module has, written from its tree: no empty declaration, no comma
--- behind the last item of a list, and no places.
+-- after the last item of a list, and no places.
 use Rattle.std.specs.Prelude.{◌≡◌, ℕ, List, [], ◌∷◌, Option, Some, None, if◌then◌else◌, map, chars}
 use Rattle.grammar.specs.Tokens.{Token}
 use Rattle.grammar.specs.Endings.{Ending.finished}
@@ -17,7 +17,7 @@ use Rattle.wgsl_theory_reread.specs.CanonicalExpressions.{Writer, all_tokens, li
 use Rattle.wgsl_theory_reread.specs.CanonicalAttributes.{rule_tokens, attributes_tokens}
 use Rattle.wgsl_theory_reread.specs.CanonicalStatements.{declaration_tokens, assert_tokens, compound_tokens}
 
--- what stands behind the attributes of a directive
+-- what is after the attributes of a directive
 abbrev pub unattributed_directive_tokens : Writer UnattributedDirective
 unattributed_directive_tokens (diagnostic d) rest = plain KwDiagnostic
     ∷ (plain SymParenLeft ∷ (kind_of_word (severity_text d.severity)
@@ -44,7 +44,7 @@ member_tokens m rest = attributed_tokens m.node.attributes m.node.ident m.node.t
 abbrev pub parameter_tokens : Writer FormalParameter
 parameter_tokens p rest = attributed_tokens p.attributes p.ident p.ty rest
 
--- what a function returns, behind its arrow, if it is there
+-- what a function returns, after its arrow, if it is there
 abbrev pub result_tokens : Attributes → Option TypeExpression → List Kind → List Kind
 result_tokens attributes None rest = rest
 result_tokens attributes (Some t) rest = plain SymArrow ∷ attributes_tokens attributes (type_tokens t rest)
@@ -55,7 +55,7 @@ function_tokens f rest =
     plain KwFn ∷ (kind_of_word f.ident ∷ (plain SymParenLeft ∷ list_tokens parameter_tokens f.parameters
     (plain SymParenRight ∷ result_tokens f.return_attributes f.return_type (compound_tokens f.body rest))))
 
--- what stands behind the attributes of a declaration; an empty one is its `;`
+-- what is after the attributes of a declaration; an empty one is its `;`
 abbrev pub unattributed_declaration_tokens : Writer UnattributedDeclaration
 unattributed_declaration_tokens void rest = plain SymSemicolon ∷ rest
 unattributed_declaration_tokens (declaration d) rest = declaration_tokens d (plain SymSemicolon ∷ rest)

@@ -1,4 +1,4 @@
--- How the tokens of a text stand in template lists and brackets.
+-- How the tokens of a text are in template lists and brackets.
 pub mod Shapes
 pub mod RoleClasses
 pub mod PassedOver

@@ -4,6 +4,6 @@ pub mod Reach
 pub mod Moves
 pub mod Passing
 pub mod Closes
-pub mod Behind
+pub mod After
 pub mod Clear
 pub mod ClearRules

@@ -1,4 +1,4 @@
--- Template lists and what stands between parentheses in place of others, and what refutes a list.
+-- Template lists and what is between parentheses in place of others, and what refutes a list.
 pub mod Swapped
 pub mod SameRest
 pub mod SwapRules

@@ -4,10 +4,10 @@ use Rattle.grammar.specs.Tokens.{Token}
 use Rattle.grammar.specs.Grammar.{is_among}
 use Rattle.wgsl_model.specs.Tokens.ClassTable.{SymLessThan, SymShiftLeft}
 use Rattle.wgsl_model.specs.Tokens.Templates.{Inside, Template}
-use Rattle.wgsl_theory_grammar.proofs.Tokens.Inside.{Behind}
+use Rattle.wgsl_theory_grammar.proofs.Tokens.Inside.{After}
 use Rattle.wgsl_theory_grammar.proofs.Tokens.Decided.{IsList}
 
--- such a list, whose `<` stands before a text, ends at another text
+-- such a list, whose `<` is before a text, ends at another text
 abbrev pub EndsAt : ℕ → List ℕ → List ℕ → Type 0
 EndsAt total text end = (ts : List Token) × Inside total (Template total) 0 text ts end × IsList ts
 
@@ -27,13 +27,13 @@ NoneAround total text =
     (end : List ℕ) → is_among less.class less_signs ≡ true
     → Inside total (Template total) depth text ts end → IsList (before ++ (less ∷ ts)) → ⊥)
 
--- From a text some tokens were seen, up to a rest, and opened so many brackets more than they
--- closed: however many are open at the text, behind these tokens stands what the rest has. If the
+-- From a text some tokens were seen, up to a rest, and opened a number of brackets more than they
+-- closed: however many are open at the text, after these tokens is what the rest has. If the
 -- last of them is a word, a template list may follow.
 pub record ReadsTo (total : ℕ) (text : List ℕ) (seen : List Token) (word : Bool) (depth : ℕ)
     (rest : List ℕ) : Type 0 where
   pub forth : (d : ℕ) (ts : List Token) (end : List ℕ)
-      → Behind total (Template total) word (d + depth) rest ts end
+      → After total (Template total) word (d + depth) rest ts end
       → Inside total (Template total) d text (seen ++ ts) end
   pub back : (d : ℕ) (ts : List Token) (end : List ℕ) → Inside total (Template total) d text ts end
-      → (us : List Token) × (ts ≡ seen ++ us) × Behind total (Template total) word (d + depth) rest us end
+      → (us : List Token) × (ts ≡ seen ++ us) × After total (Template total) word (d + depth) rest us end

@@ -1,4 +1,4 @@
--- The comments at the front of a text, each with what stands behind it.
+-- The comments at the front of a text, each with what is after it.
 use Rattle.std.proofs.Common.{◌≡◌, ℕ, ◌+◌, ◌==◌, ◌&&◌, Bool, true, false, cond, refl, sym, ap, ◌∙◌, List, [], ◌∷◌, ◌++◌, arith}
 use Rattle.std.specs.Char.{is_whitespace}
 use Rattle.std.proofs.lemmas.Bool.{and_parts, true≢false}
@@ -60,7 +60,7 @@ grown c n [] ps true e = refl
 grown c n (d ∷ ds) ps true e = absurd (true≢false (sym (and_parts (is_whitespace c) false e).1))
 grown c n text ps false e = refl
 
--- a line comment, whose sign stands before the text, goes up to the end of the line
+-- a line comment, whose sign is before the text, goes up to the end of the line
 pub line_comment : (b : ℕ → List Piece) (n : ℕ) (xs rest : List ℕ) → OnLine xs → AtLineEnd rest
     → comments b in_line n (xs ++ rest) ≡ piece LineComment (trimmed xs) n ∷ comments b outside 0 rest
 unfolding comments

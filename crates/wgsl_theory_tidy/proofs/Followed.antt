@@ -33,52 +33,52 @@ one_more n k = omega arith
 no_zero : (n : ℕ) → (suc n == 0) ≡ false
 no_zero n = grind arith
 
-pub behind_end : (n : ℕ) (b : Bool) → (suc n == 0 && b) ≡ false
-behind_end n b = rw (no_zero n) refl
+pub after_end : (n : ℕ) (b : Bool) → (suc n == 0 && b) ≡ false
+after_end n b = rw (no_zero n) refl
 
 -- after a line end none does
-pub none_behind : (behind : ℕ → List Piece) → ((m : ℕ) → is_followed (behind (suc m)) ≡ false)
-    → (p : Place) (n : ℕ) (text : List ℕ) → is_followed (comments behind p (suc n) text) ≡ false
+pub none_after : (following : ℕ → List Piece) → ((m : ℕ) → is_followed (following (suc m)) ≡ false)
+    → (p : Place) (n : ℕ) (text : List ℕ) → is_followed (comments following p (suc n) text) ≡ false
 unfolding comments
-none_behind behind h outside n [] = h n
-none_behind behind h outside n (c ∷ cs) =
-    either_none (c == 47 && first_or_zero cs == 47) (put c (comments behind (second in_line) (suc n) cs))
-    (cond (c == 47 && first_or_zero cs == 42) (put c (comments behind (second (in_block 0)) (suc n) cs))
-    (comments behind outside (suc n + line_ends_at c cs) cs))
-    (put_none c (comments behind (second in_line) (suc n) cs) (none_behind behind h (second in_line) n cs))
-    (either_none (c == 47 && first_or_zero cs == 42) (put c (comments behind (second (in_block 0))
-    (suc n) cs)) (comments behind outside (suc n + line_ends_at c cs) cs)
-    (put_none c (comments behind (second (in_block 0)) (suc n) cs) (none_behind behind h (second (in_block 0)) n cs))
-    (ap (λ m. is_followed (comments behind outside m cs)) (one_more n (line_ends_at c cs))
-    ∙ none_behind behind h outside (n + line_ends_at c cs) cs))
-none_behind behind h in_line n [] = behind_end n _
-none_behind behind h in_line n (c ∷ cs) =
+none_after following h outside n [] = h n
+none_after following h outside n (c ∷ cs) =
+    either_none (c == 47 && first_or_zero cs == 47) (put c (comments following (second in_line) (suc n) cs))
+    (cond (c == 47 && first_or_zero cs == 42) (put c (comments following (second (in_block 0)) (suc n) cs))
+    (comments following outside (suc n + line_ends_at c cs) cs))
+    (put_none c (comments following (second in_line) (suc n) cs) (none_after following h (second in_line) n cs))
+    (either_none (c == 47 && first_or_zero cs == 42) (put c (comments following (second (in_block 0))
+    (suc n) cs)) (comments following outside (suc n + line_ends_at c cs) cs)
+    (put_none c (comments following (second (in_block 0)) (suc n) cs) (none_after following h (second (in_block 0)) n cs))
+    (ap (λ m. is_followed (comments following outside m cs)) (one_more n (line_ends_at c cs))
+    ∙ none_after following h outside (n + line_ends_at c cs) cs))
+none_after following h in_line n [] = after_end n _
+none_after following h in_line n (c ∷ cs) =
     either_none (is_line_break c)
-    (comment LineComment (suc n) ∷ comments behind outside (line_ends_at c cs) cs)
-    (put_in_line c (comments behind in_line (suc n) cs))
-    (behind_end n _)
-    (put_in_line_none c (comments behind in_line (suc n) cs) (none_behind behind h in_line n cs))
-none_behind behind h (in_block depth) n [] = behind_end n _
-none_behind behind h (in_block depth) n (c ∷ cs) =
+    (comment LineComment (suc n) ∷ comments following outside (line_ends_at c cs) cs)
+    (put_in_line c (comments following in_line (suc n) cs))
+    (after_end n _)
+    (put_in_line_none c (comments following in_line (suc n) cs) (none_after following h in_line n cs))
+none_after following h (in_block depth) n [] = after_end n _
+none_after following h (in_block depth) n (c ∷ cs) =
     either_none (c == 47 && first_or_zero cs == 42)
-    (put c (comments behind (second (in_block (suc depth))) (suc n) cs))
-    (cond (c == 42 && first_or_zero cs == 47) (put c (comments behind (second (out_of_block depth))
-    (suc n) cs)) (put c (comments behind (in_block depth) (suc n) cs)))
-    (put_none c (comments behind (second (in_block (suc depth))) (suc n) cs)
-    (none_behind behind h (second (in_block (suc depth))) n cs))
-    (either_none (c == 42 && first_or_zero cs == 47) (put c (comments behind
-    (second (out_of_block depth)) (suc n) cs)) (put c (comments behind (in_block depth) (suc n) cs))
-    (put_none c (comments behind (second (out_of_block depth)) (suc n) cs)
-    (none_behind behind h (second (out_of_block depth)) n cs))
-    (put_none c (comments behind (in_block depth) (suc n) cs) (none_behind behind h (in_block depth) n cs)))
-none_behind behind h (second p) n [] = behind_end n _
-none_behind behind h (second outside) n (c ∷ cs) = behind_end n _
-none_behind behind h (second in_line) n (c ∷ cs) = put_none c (comments behind in_line (suc n) cs)
-    (none_behind behind h in_line n cs)
-none_behind behind h (second (in_block depth)) n (c ∷ cs) = put_none c
-    (comments behind (in_block depth) (suc n) cs) (none_behind behind h (in_block depth) n cs)
-none_behind behind h (second (second p)) n (c ∷ cs) = put_none c
-    (comments behind (second p) (suc n) cs) (none_behind behind h (second p) n cs)
+    (put c (comments following (second (in_block (suc depth))) (suc n) cs))
+    (cond (c == 42 && first_or_zero cs == 47) (put c (comments following (second (out_of_block depth))
+    (suc n) cs)) (put c (comments following (in_block depth) (suc n) cs)))
+    (put_none c (comments following (second (in_block (suc depth))) (suc n) cs)
+    (none_after following h (second (in_block (suc depth))) n cs))
+    (either_none (c == 42 && first_or_zero cs == 47) (put c (comments following
+    (second (out_of_block depth)) (suc n) cs)) (put c (comments following (in_block depth) (suc n) cs))
+    (put_none c (comments following (second (out_of_block depth)) (suc n) cs)
+    (none_after following h (second (out_of_block depth)) n cs))
+    (put_none c (comments following (in_block depth) (suc n) cs) (none_after following h (in_block depth) n cs)))
+none_after following h (second p) n [] = after_end n _
+none_after following h (second outside) n (c ∷ cs) = after_end n _
+none_after following h (second in_line) n (c ∷ cs) = put_none c (comments following in_line (suc n) cs)
+    (none_after following h in_line n cs)
+none_after following h (second (in_block depth)) n (c ∷ cs) = put_none c
+    (comments following (in_block depth) (suc n) cs) (none_after following h (in_block depth) n cs)
+none_after following h (second (second p)) n (c ∷ cs) = put_none c
+    (comments following (second p) (suc n) cs) (none_after following h (second p) n cs)
 
 -- one follows a comment without a line end before it, where one follows after the comment
 pub over_comment : (class : ℕ) (text : List ℕ) (ps : List Piece) → is_comment class ≡ true
@@ -86,12 +86,12 @@ pub over_comment : (class : ℕ) (text : List ℕ) (ps : List Piece) → is_comm
 over_comment class text ps h = rw h refl
 
 -- none does after some line ends, and no line end changes nothing
-pub ended : (behind : ℕ → List Piece) → ((m : ℕ) → is_followed (behind (suc m)) ≡ false)
-    → (k : ℕ) (text : List ℕ) → 0 < k → is_followed (comments behind outside (0 + k) text) ≡ false
-ended behind h zero text e = absurd (omega (arith, e))
-ended behind h (suc n) text e =
+pub ended : (following : ℕ → List Piece) → ((m : ℕ) → is_followed (following (suc m)) ≡ false)
+    → (k : ℕ) (text : List ℕ) → 0 < k → is_followed (comments following outside (0 + k) text) ≡ false
+ended following h zero text e = absurd (omega (arith, e))
+ended following h (suc n) text e =
     let same : 0 + suc n ≡ suc n = omega arith in
-    ap (λ m. is_followed (comments behind outside m text)) same ∙ none_behind behind h outside n text
+    ap (λ m. is_followed (comments following outside m text)) same ∙ none_after following h outside n text
 
 pub not_ended : (k : ℕ) → k ≤ 0 → 0 + k ≡ 0
 not_ended k e = omega (arith, e)

@@ -1,57 +1,57 @@
--- A piece that is laid out, and what is laid out behind it.
+-- A piece that is formatted, and what is formatted after it.
 use Rattle.std.proofs.Common.{◌≡◌, ℕ, Bool, true, false, refl, sym, ap, ◌∙◌, List, ◌∷◌, ◌++◌, append_assoc}
 use Rattle.wgsl_model_tidy.specs.Pieces.{Piece}
 use Rattle.wgsl_model_tidy.specs.Roles.{Role}
 use Rattle.wgsl_model_tidy.specs.Layout.{Layout, column_after}
-use Rattle.wgsl_model_tidy.specs.Open.{Style, together, LayoutState, enclosing, role_in, behind_token}
-use Rattle.wgsl_model_tidy.specs.LaidOut.{Gap, Last, token, Spot, next_role, owned, gap_before_comment, gap_before_token, gap_text, depth_behind, piece_text, in_line_of, is_comment, leads, comment_last, style_of, laid_from, operand_follows}
+use Rattle.wgsl_model_tidy.specs.Open.{Style, together, LayoutState, enclosing, role_in, after_token}
+use Rattle.wgsl_model_tidy.specs.LaidOut.{Gap, Last, token, Spot, next_role, owned, gap_before_comment, gap_before_token, gap_text, depth_after, piece_text, in_line_of, is_comment, leads, comment_last, style_of, laid_from, operand_follows}
 use Rattle.wgsl_theory_tidy.proofs.Comments.{piece}
 use Rattle.wgsl_theory_tidy.proofs.Kept.ShownTexts.{token_text}
 
 -- ---- spots
 
 -- the spot after a comment, in a line of this depth
-abbrev pub behind_comment_at : LayoutState → ℕ → Last → ℕ → Spot
-behind_comment_at state depth last column = record { state = in_line_of state depth; last = last; column = column }
+abbrev pub after_comment_at : LayoutState → ℕ → Last → ℕ → Spot
+after_comment_at state depth last column = record { state = in_line_of state depth; last = last; column = column }
 
 -- the spot after a token; a bracket that it opens is of the style
-abbrev pub behind_token_at : LayoutState → ℕ → ℕ → Role → ℕ → Style → Spot
-behind_token_at state depth class right column style =
-    record { state = behind_token state depth class right style; last = token; column = column }
+abbrev pub after_token_at : LayoutState → ℕ → ℕ → Role → ℕ → Style → Spot
+after_token_at state depth class right column style =
+    record { state = after_token state depth class right style; last = token; column = column }
 
 -- how a bracket is written that a token opens there, before these pieces
 abbrev pub style_at : Layout → LayoutState → ℕ → ℕ → Role → ℕ → List Piece → Style
 style_at layout state depth class right column ps = style_of layout (enclosing state.opened) class
-    column ps (laid_from layout (behind_token_at state depth class right column together) ps)
+    column ps (laid_from layout (after_token_at state depth class right column together) ps)
 
 -- ---- a comment
 
--- a gap and a comment are written, and others are laid out behind them
-abbrev behind_gap : Layout → Spot → Gap → Piece → List Piece → List ℕ
-behind_gap layout spot gap p ps =
+-- a gap and a comment are written, and others are formatted after them
+abbrev after_gap : Layout → Spot → Gap → Piece → List Piece → List ℕ
+after_gap layout spot gap p ps =
     gap_text layout gap
-    ++ (piece_text layout spot gap p ++ laid_from layout (behind_comment_at spot.state
-    (depth_behind gap spot.state.line) (comment_last p.class (leads gap spot.last spot.state.last))
+    ++ (piece_text layout spot gap p ++ laid_from layout (after_comment_at spot.state
+    (depth_after gap spot.state.line) (comment_last p.class (leads gap spot.last spot.state.last))
     (column_after layout spot.column (gap_text layout gap ++ piece_text layout spot gap p))) ps)
 
 comment_laid_here : (layout : Layout) (class : ℕ) → is_comment class ≡ true
     → (spot : Spot) (text : List ℕ) (n : ℕ) (ps : List Piece)
     → laid_from layout spot (piece class text n ∷ ps)
-    ≡ behind_gap layout spot (gap_before_comment spot (next_role spot.state ps) class
+    ≡ after_gap layout spot (gap_before_comment spot (next_role spot.state ps) class
     (owned spot (next_role spot.state ps) ps) n) (piece class text n) ps
 comment_laid_here layout class h spot text n ps = rw h refl
 
--- behind what is written already
-behind_written : (written gap text left : List ℕ)
+-- after what is written already
+after_written : (written gap text left : List ℕ)
     → written ++ (gap ++ (text ++ left)) ≡ ((written ++ gap) ++ text) ++ left
-behind_written written gap text left = sym (append_assoc written gap (text ++ left))
+after_written written gap text left = sym (append_assoc written gap (text ++ left))
     ∙ sym (append_assoc (written ++ gap) text left)
 
--- the comment and what is laid out behind it, behind what is written already and the gap
+-- the comment and what is formatted after it, after what is written already and the gap
 abbrev with_comment : Layout → Spot → List ℕ → Gap → ℕ → List ℕ → List Piece → List ℕ
 with_comment layout spot written gap class text ps =
     ((written ++ gap_text layout gap) ++ text)
-    ++ laid_from layout (behind_comment_at spot.state (depth_behind gap spot.state.line) (comment_last class
+    ++ laid_from layout (after_comment_at spot.state (depth_after gap spot.state.line) (comment_last class
     (leads gap spot.last spot.state.last)) (column_after layout spot.column (gap_text layout gap ++ text))) ps
 
 comment_laid : (layout : Layout) (class : ℕ) → is_comment class ≡ true
@@ -62,10 +62,10 @@ comment_laid : (layout : Layout) (class : ℕ) → is_comment class ≡ true
     ≡ with_comment layout spot written gap class (piece_text layout spot gap (piece class text n)) ps
 comment_laid layout class h spot right own written text n ps gap e i g =
     ap (λ cs. written ++ cs) (comment_laid_here layout class h spot text n ps
-    ∙ ap (λ r. behind_gap layout spot (gap_before_comment spot r class (owned spot r ps) n) (piece class text n) ps) e
-    ∙ ap (λ o. behind_gap layout spot (gap_before_comment spot right class o n) (piece class text n) ps) i
-    ∙ ap (λ g. behind_gap layout spot g (piece class text n) ps) (sym g))
-    ∙ behind_written written (gap_text layout gap) (piece_text layout spot gap (piece class text n)) _
+    ∙ ap (λ r. after_gap layout spot (gap_before_comment spot r class (owned spot r ps) n) (piece class text n) ps) e
+    ∙ ap (λ o. after_gap layout spot (gap_before_comment spot right class o n) (piece class text n) ps) i
+    ∙ ap (λ g. after_gap layout spot g (piece class text n) ps) (sym g))
+    ∙ after_written written (gap_text layout gap) (piece_text layout spot gap (piece class text n)) _
 
 -- the same, where what was written, the gap and the column are known by equations
 pub comment_written : (layout : Layout) (class : ℕ) → is_comment class ≡ true
@@ -75,7 +75,7 @@ pub comment_written : (layout : Layout) (class : ℕ) → is_comment class ≡ t
     → gap ≡ gap_before_comment spot right class own n
     → shown ≡ piece_text layout spot gap (piece class text n)
     → first ≡ written ++ gap_text layout gap → second ≡ first ++ shown
-    → depth ≡ depth_behind gap spot.state.line
+    → depth ≡ depth_after gap spot.state.line
     → last ≡ comment_last class (leads gap spot.last spot.state.last)
     → column ≡ column_after layout spot.column (gap_text layout gap ++ shown)
     → written ++ laid_from layout spot (piece class text n ∷ ps) ≡ second ++ laid_from layout
@@ -85,26 +85,26 @@ comment_written layout class h spot right own written text shown first second n 
     comment_laid layout class h spot right own written text n ps gap e i g
     ∙ ap (λ t. with_comment layout spot written gap class t ps) (sym w)
     ∙ ap (λ m. ((written ++ gap_text layout gap) ++ shown)
-    ++ laid_from layout (behind_comment_at spot.state m (comment_last class (leads gap spot.last
+    ++ laid_from layout (after_comment_at spot.state m (comment_last class (leads gap spot.last
     spot.state.last)) (column_after layout spot.column (gap_text layout gap ++ shown))) ps) (sym d)
-    ∙ ap (λ k. ((written ++ gap_text layout gap) ++ shown) ++ laid_from layout (behind_comment_at
+    ∙ ap (λ k. ((written ++ gap_text layout gap) ++ shown) ++ laid_from layout (after_comment_at
     spot.state depth k (column_after layout spot.column (gap_text layout gap ++ shown))) ps) (sym l)
     ∙ ap (λ m. ((written ++ gap_text layout gap) ++ shown)
-    ++ laid_from layout (behind_comment_at spot.state depth last m) ps) (sym c)
-    ∙ ap (λ cs. (cs ++ shown) ++ laid_from layout (behind_comment_at spot.state depth last column) ps) (sym f)
-    ∙ ap (λ cs. cs ++ laid_from layout (behind_comment_at spot.state depth last column) ps) (sym s)
+    ++ laid_from layout (after_comment_at spot.state depth last m) ps) (sym c)
+    ∙ ap (λ cs. (cs ++ shown) ++ laid_from layout (after_comment_at spot.state depth last column) ps) (sym f)
+    ∙ ap (λ cs. cs ++ laid_from layout (after_comment_at spot.state depth last column) ps) (sym s)
 
 -- ---- a token
 
 -- others, formatted after a token in a line of this depth, which ends at this column
-abbrev behind_word : Layout → Spot → ℕ → ℕ → Role → ℕ → List Piece → List ℕ
-behind_word layout spot depth class right column ps = laid_from layout (behind_token_at spot.state
+abbrev after_word : Layout → Spot → ℕ → ℕ → Role → ℕ → List Piece → List ℕ
+after_word layout spot depth class right column ps = laid_from layout (after_token_at spot.state
     depth class right column (style_at layout spot.state depth class right column ps)) ps
 
--- a gap and a token are written, and others are laid out behind them
+-- a gap and a token are written, and others are formatted after them
 abbrev with_word : Layout → Spot → ℕ → Role → Gap → List ℕ → List Piece → List ℕ
 with_word layout spot class right gap text ps =
-    gap_text layout gap ++ (text ++ behind_word layout spot (depth_behind gap spot.state.line) class
+    gap_text layout gap ++ (text ++ after_word layout spot (depth_after gap spot.state.line) class
     right (column_after layout spot.column (gap_text layout gap ++ text)) ps)
 
 token_laid_here : (layout : Layout) (class : ℕ) → is_comment class ≡ false
@@ -129,12 +129,12 @@ pub token_laid : (layout : Layout) (class : ℕ) → is_comment class ≡ false
     → right ≡ role_in spot.state class (operand_follows ps)
     → written ++ laid_from layout spot (piece class text n ∷ ps)
     ≡ ((written ++ gap_text layout (gap_before_token spot right n)) ++ text)
-    ++ behind_word layout spot (depth_behind (gap_before_token spot right n) spot.state.line) class right
+    ++ after_word layout spot (depth_after (gap_before_token spot right n) spot.state.line) class right
     (column_after layout spot.column (gap_text layout (gap_before_token spot right n) ++ text)) ps
 token_laid layout class h spot right written text n ps e =
     ap (λ cs. written ++ cs) (token_laid_here layout class h spot text n ps
     ∙ ap (λ r. with_word layout spot class r (gap_before_token spot r n) text ps) (sym e))
-    ∙ behind_written written (gap_text layout (gap_before_token spot right n)) text _
+    ∙ after_written written (gap_text layout (gap_before_token spot right n)) text _
 
 -- the same, where what was written, the gap, the column and the style are known by equations
 pub token_written : (layout : Layout) (class : ℕ) → is_comment class ≡ false
@@ -142,22 +142,22 @@ pub token_written : (layout : Layout) (class : ℕ) → is_comment class ≡ fal
     (gap : Gap) (style : Style) (after : LayoutState) (ps : List Piece)
     → right ≡ role_in spot.state class (operand_follows ps) → gap ≡ gap_before_token spot right n
     → first ≡ written ++ gap_text layout gap → second ≡ first ++ text
-    → depth ≡ depth_behind gap spot.state.line
+    → depth ≡ depth_after gap spot.state.line
     → column ≡ column_after layout spot.column (gap_text layout gap ++ text)
     → style ≡ style_of layout (enclosing spot.state.opened) class column ps (laid_from layout
-    (record { state = behind_token spot.state depth class right together; last = token; column = column }) ps)
-    → after ≡ behind_token spot.state depth class right style
+    (record { state = after_token spot.state depth class right together; last = token; column = column }) ps)
+    → after ≡ after_token spot.state depth class right style
     → written ++ laid_from layout spot (piece class text n ∷ ps)
     ≡ second ++ laid_from layout (record { state = after; last = token; column = column }) ps
 token_written layout class h spot right written text first second n depth column gap style after ps e g f s d c t a =
     token_laid layout class h spot right written text n ps e
-    ∙ ap (λ g. ((written ++ gap_text layout g) ++ text) ++ behind_word layout spot (depth_behind g
+    ∙ ap (λ g. ((written ++ gap_text layout g) ++ text) ++ after_word layout spot (depth_after g
     spot.state.line) class right (column_after layout spot.column (gap_text layout g ++ text)) ps) (sym g)
-    ∙ ap (λ m. ((written ++ gap_text layout gap) ++ text) ++ behind_word layout spot m class right
+    ∙ ap (λ m. ((written ++ gap_text layout gap) ++ text) ++ after_word layout spot m class right
     (column_after layout spot.column (gap_text layout gap ++ text)) ps) (sym d)
-    ∙ ap (λ m. ((written ++ gap_text layout gap) ++ text) ++ behind_word layout spot depth class right m ps) (sym c)
+    ∙ ap (λ m. ((written ++ gap_text layout gap) ++ text) ++ after_word layout spot depth class right m ps) (sym c)
     ∙ ap (λ k. ((written ++ gap_text layout gap) ++ text)
-    ++ laid_from layout (behind_token_at spot.state depth class right column k) ps) (sym t)
+    ++ laid_from layout (after_token_at spot.state depth class right column k) ps) (sym t)
     ∙ ap (λ s. ((written ++ gap_text layout gap) ++ text)
     ++ laid_from layout (record { state = s; last = token; column = column }) ps) (sym a)
     ∙ ap (λ cs. (cs ++ text) ++ laid_from layout (record { state = after; last = token; column = column }) ps) (sym f)

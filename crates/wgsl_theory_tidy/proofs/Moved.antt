@@ -1,4 +1,4 @@
--- What tokens derive does not hang on where they stand.
+-- What tokens derive does not depend on where they are.
 pub mod Alike
 pub mod Ways
 pub mod ExpressionRules

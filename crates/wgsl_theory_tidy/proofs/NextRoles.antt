@@ -29,51 +29,51 @@ in_line_same f s c (p ∷ ps) = either f (f (p ∷ ps)) (is_whitespace c && is_e
     (put c (p ∷ ps)) refl (s.over_character c (p ∷ ps))
 
 -- what is known so after however many line ends is so after the comments
-pub known_behind : {A : Type 0} (f : List Piece → A) → PassesComments f
-    → (x : A) (behind : ℕ → List Piece) → ((m : ℕ) → f (behind m) ≡ x)
-    → (p : Place) (n : ℕ) (text : List ℕ) → f (comments behind p n text) ≡ x
+pub known_after : {A : Type 0} (f : List Piece → A) → PassesComments f
+    → (x : A) (following : ℕ → List Piece) → ((m : ℕ) → f (following m) ≡ x)
+    → (p : Place) (n : ℕ) (text : List ℕ) → f (comments following p n text) ≡ x
 unfolding comments
-known_behind f s x behind h outside n [] = h n
-known_behind f s x behind h outside n (c ∷ cs) =
-    let line = comments behind (second in_line) n cs in
-    let block = comments behind (second (in_block 0)) n cs in
-    let blank = comments behind outside (n + line_ends_at c cs) cs in
+known_after f s x following h outside n [] = h n
+known_after f s x following h outside n (c ∷ cs) =
+    let line = comments following (second in_line) n cs in
+    let block = comments following (second (in_block 0)) n cs in
+    let blank = comments following outside (n + line_ends_at c cs) cs in
     either f x (c == 47 && first_or_zero cs == 47) (put c line)
     (cond (c == 47 && first_or_zero cs == 42) (put c block) blank)
-    (s.over_character c line ∙ known_behind f s x behind h (second in_line) n cs)
+    (s.over_character c line ∙ known_after f s x following h (second in_line) n cs)
     (either f x (c == 47 && first_or_zero cs == 42) (put c block) blank
-    (s.over_character c block ∙ known_behind f s x behind h (second (in_block 0)) n cs)
-    (known_behind f s x behind h outside (n + line_ends_at c cs) cs))
-known_behind f s x behind h in_line n [] = s.over_comment LineComment n (behind 0) refl ∙ h 0
-known_behind f s x behind h in_line n (c ∷ cs) =
-    let after = comments behind outside (line_ends_at c cs) cs in
-    let left = comments behind in_line n cs in
+    (s.over_character c block ∙ known_after f s x following h (second (in_block 0)) n cs)
+    (known_after f s x following h outside (n + line_ends_at c cs) cs))
+known_after f s x following h in_line n [] = s.over_comment LineComment n (following 0) refl ∙ h 0
+known_after f s x following h in_line n (c ∷ cs) =
+    let after = comments following outside (line_ends_at c cs) cs in
+    let left = comments following in_line n cs in
     either f x (is_line_break c) (comment LineComment n ∷ after) (put_in_line c left)
-    (s.over_comment LineComment n after refl ∙ known_behind f s x behind h outside (line_ends_at c cs) cs)
-    (in_line_same f s c left ∙ known_behind f s x behind h in_line n cs)
-known_behind f s x behind h (in_block depth) n [] = s.over_comment OpenComment n (behind 0) refl ∙ h 0
-known_behind f s x behind h (in_block depth) n (c ∷ cs) =
-    let inner = comments behind (second (in_block (suc depth))) n cs in
-    let outer = comments behind (second (out_of_block depth)) n cs in
-    let left = comments behind (in_block depth) n cs in
+    (s.over_comment LineComment n after refl ∙ known_after f s x following h outside (line_ends_at c cs) cs)
+    (in_line_same f s c left ∙ known_after f s x following h in_line n cs)
+known_after f s x following h (in_block depth) n [] = s.over_comment OpenComment n (following 0) refl ∙ h 0
+known_after f s x following h (in_block depth) n (c ∷ cs) =
+    let inner = comments following (second (in_block (suc depth))) n cs in
+    let outer = comments following (second (out_of_block depth)) n cs in
+    let left = comments following (in_block depth) n cs in
     either f x (c == 47 && first_or_zero cs == 42) (put c inner)
     (cond (c == 42 && first_or_zero cs == 47) (put c outer) (put c left))
-    (s.over_character c inner ∙ known_behind f s x behind h (second (in_block (suc depth))) n cs)
+    (s.over_character c inner ∙ known_after f s x following h (second (in_block (suc depth))) n cs)
     (either f x (c == 42 && first_or_zero cs == 47) (put c outer) (put c left)
-    (s.over_character c outer ∙ known_behind f s x behind h (second (out_of_block depth)) n cs)
-    (s.over_character c left ∙ known_behind f s x behind h (in_block depth) n cs))
-known_behind f s x behind h (second p) n [] = s.over_comment OpenComment n (behind 0) refl ∙ h 0
-known_behind f s x behind h (second outside) n (c ∷ cs) =
-    let after = comments behind outside 0 cs in
+    (s.over_character c outer ∙ known_after f s x following h (second (out_of_block depth)) n cs)
+    (s.over_character c left ∙ known_after f s x following h (in_block depth) n cs))
+known_after f s x following h (second p) n [] = s.over_comment OpenComment n (following 0) refl ∙ h 0
+known_after f s x following h (second outside) n (c ∷ cs) =
+    let after = comments following outside 0 cs in
     s.over_character c (comment BlockComment n ∷ after) ∙ s.over_comment BlockComment n after refl
-    ∙ known_behind f s x behind h outside 0 cs
-known_behind f s x behind h (second in_line) n (c ∷ cs) =
-    s.over_character c (comments behind in_line n cs) ∙ known_behind f s x behind h in_line n cs
-known_behind f s x behind h (second (in_block depth)) n (c ∷ cs) =
-    s.over_character c (comments behind (in_block depth) n cs)
-    ∙ known_behind f s x behind h (in_block depth) n cs
-known_behind f s x behind h (second (second p)) n (c ∷ cs) =
-    s.over_character c (comments behind (second p) n cs) ∙ known_behind f s x behind h (second p) n cs
+    ∙ known_after f s x following h outside 0 cs
+known_after f s x following h (second in_line) n (c ∷ cs) =
+    s.over_character c (comments following in_line n cs) ∙ known_after f s x following h in_line n cs
+known_after f s x following h (second (in_block depth)) n (c ∷ cs) =
+    s.over_character c (comments following (in_block depth) n cs)
+    ∙ known_after f s x following h (in_block depth) n cs
+known_after f s x following h (second (second p)) n (c ∷ cs) =
+    s.over_character c (comments following (second p) n cs) ∙ known_after f s x following h (second p) n cs
 
 -- ---- so is what the first token does
 
@@ -84,10 +84,10 @@ next_put s c (p ∷ ps) = refl
 next_passes : (s : LayoutState) → PassesComments (next_role s)
 next_passes s = record { over_character = next_put s; over_comment = λ class n ps h. rw h refl }
 
-pub next_behind : (s : LayoutState) (right : Role) (behind : ℕ → List Piece)
-    → ((m : ℕ) → next_role s (behind m) ≡ right) → (p : Place) (n : ℕ) (text : List ℕ)
-    → next_role s (comments behind p n text) ≡ right
-next_behind s right behind h p n text = known_behind (next_role s) (next_passes s) right behind h p n text
+pub next_after : (s : LayoutState) (right : Role) (following : ℕ → List Piece)
+    → ((m : ℕ) → next_role s (following m) ≡ right) → (p : Place) (n : ℕ) (text : List ℕ)
+    → next_role s (comments following p n text) ≡ right
+next_after s right following h p n text = known_after (next_role s) (next_passes s) right following h p n text
 
 -- ---- and whether an operand begins with it
 
@@ -98,10 +98,10 @@ operand_put c (p ∷ ps) = refl
 operand_passes : PassesComments operand_follows
 operand_passes = record { over_character = operand_put; over_comment = λ class n ps h. rw h refl }
 
-pub operand_behind : (operand : Bool) (behind : ℕ → List Piece)
-    → ((m : ℕ) → operand_follows (behind m) ≡ operand) → (p : Place) (n : ℕ) (text : List ℕ)
-    → operand_follows (comments behind p n text) ≡ operand
-operand_behind operand behind h p n text = known_behind operand_follows operand_passes operand behind h p n text
+pub operand_after : (operand : Bool) (following : ℕ → List Piece)
+    → ((m : ℕ) → operand_follows (following m) ≡ operand) → (p : Place) (n : ℕ) (text : List ℕ)
+    → operand_follows (comments following p n text) ≡ operand
+operand_after operand following h p n text = known_after operand_follows operand_passes operand following h p n text
 
 -- the depth of the line does not matter for what it does
 pub next_in_line : (s : LayoutState) (depth : ℕ) (ps : List Piece) → next_role (in_line_of s depth) ps ≡ next_role s ps

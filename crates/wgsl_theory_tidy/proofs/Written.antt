@@ -35,15 +35,15 @@ one_space text n = append_assoc text (replicate n 32) (replicate 1 32)
     ∙ ap (λ xs. text ++ xs) (replicate-append-replicate n 1 32)
 
 -- a level more
-level_behind : (layout : Layout) (depth : ℕ)
+level_after : (layout : Layout) (depth : ℕ)
     → indentation layout depth ++ level layout ≡ level layout ++ indentation layout depth
-level_behind layout zero = sym (append-nil (level layout))
-level_behind layout (suc depth) = append_assoc (level layout) (indentation layout depth) (level layout)
-    ∙ ap (λ xs. level layout ++ xs) (level_behind layout depth)
+level_after layout zero = sym (append-nil (level layout))
+level_after layout (suc depth) = append_assoc (level layout) (indentation layout depth) (level layout)
+    ∙ ap (λ xs. level layout ++ xs) (level_after layout depth)
 
 pub one_level : (layout : Layout) (text : List ℕ) (depth : ℕ)
     → (text ++ indentation layout depth) ++ level layout ≡ text ++ indentation layout (depth + 1)
 one_level layout text depth =
     let more : depth + 1 ≡ suc depth = omega arith in
     append_assoc text (indentation layout depth) (level layout)
-    ∙ ap (λ xs. text ++ xs) (level_behind layout depth) ∙ ap (λ n. text ++ indentation layout n) (sym more)
+    ∙ ap (λ xs. text ++ xs) (level_after layout depth) ∙ ap (λ n. text ++ indentation layout n) (sym more)

@@ -1,2 +1,2 @@
-//! What stands between the pieces of a laid-out text, and that it keeps them.
+//! What is between the pieces of a laid-out text, and that it keeps them.
 #![tactic(auto)]

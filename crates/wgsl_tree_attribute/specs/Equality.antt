@@ -1,4 +1,4 @@
--- What `==` of attributes, and of the structs that they hold, answers.
+-- What `==` of attributes, and of the structs that they hold, returns.
 use Rattle.std.specs.Prelude.{Bool}
 use Rattle.wgsl_tree_attribute.specs.declared.attribute.Attribute.{Attribute}
 use Rattle.wgsl_tree_attribute.specs.declared.diagnostic.DiagnosticAttribute.{DiagnosticAttribute}

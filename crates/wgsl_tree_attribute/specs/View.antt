@@ -8,6 +8,6 @@ pub use Rattle.wgsl_tree_attribute.specs.ViewNodes.{expressions_view, diagnostic
 pub use Rattle.wgsl_tree_attribute.specs.ViewNodes.{interpolate_view, workgroup_size_view}
 pub use Rattle.wgsl_tree_attribute.specs.ViewNodes.{type_constraint_view, attribute_view}
 
--- attributes, each with where it stands
+-- attributes, each with where it is
 abbrev pub attributes_view : List (Spanned Attribute) → plain.Attributes
 attributes_view = map (spanned_view attribute_view)

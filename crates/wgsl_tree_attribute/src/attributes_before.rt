@@ -9,7 +9,7 @@ use std::fmt;
 use std::fmt::Write;
 use wgsl_writer::write_joined;
 
-/// Attributes with a space between each two, and an end behind them if there are any.
+/// Attributes with a space between each two, and an end after them if there are any.
 #[derive(Drop)]
 pub struct AttributesBefore<'a> {
     pub attributes: &'a [AttributeNode],

@@ -1,5 +1,5 @@
--- Written by tools/tables/tree_readers.py from crates/wgsl_model/nodes: expressions and types read from
--- their codes.
+-- Written by tools/tables/tree_readers.py from crates/wgsl_model/nodes: expressions and types read
+-- from their codes.
 use Rattle.std.specs.Prelude.{[], ◌∷◌, Option, None, Some, codes, ◌≡◌}
 use Rattle.std.proofs.Common.{refl}
 use Rattle.wgsl_model.specs.Trees.Expressions as plain

@@ -1,4 +1,5 @@
--- Written by tools/tables/tree_spans.py from crates/wgsl_model/nodes: attributes without their spans.
+-- Written by tools/tables/tree_spans.py from crates/wgsl_model/nodes: attributes without their
+-- spans.
 use Rattle.std.specs.Prelude.{[], ◌∷◌, map, codes, true, ◌≡◌, ◌↔◌}
 use Rattle.std.proofs.Common.{refl}
 use Rattle.wgsl_model.specs.Trees.Attributes as plain

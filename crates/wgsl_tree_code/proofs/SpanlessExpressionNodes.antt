@@ -1,5 +1,5 @@
--- Written by tools/tables/tree_spans.py from crates/wgsl_model/nodes: expressions and types without their
--- spans.
+-- Written by tools/tables/tree_spans.py from crates/wgsl_model/nodes: expressions and types without
+-- their spans.
 use Rattle.std.specs.Prelude.{[], ◌∷◌, codes, true, ◌≡◌, ◌↔◌}
 use Rattle.std.proofs.Common.{refl}
 use Rattle.wgsl_model.specs.Trees.Expressions as plain

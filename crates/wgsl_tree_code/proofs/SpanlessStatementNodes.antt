@@ -1,4 +1,5 @@
--- Written by tools/tables/tree_spans.py from crates/wgsl_model/nodes: statements without their spans.
+-- Written by tools/tables/tree_spans.py from crates/wgsl_model/nodes: statements without their
+-- spans.
 use Rattle.std.specs.Prelude.{[], ◌∷◌, codes, true, ◌≡◌, ◌↔◌}
 use Rattle.std.proofs.Common.{refl}
 use Rattle.wgsl_model.specs.Trees.Statements.{changed_for, changed_if, changed_loop, changed_switch, changed_while}

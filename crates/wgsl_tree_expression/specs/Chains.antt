@@ -12,7 +12,7 @@ use Rattle.wgsl_tree_expression.specs.declared.expression.Expression.TheViews.{o
 use Rattle.wgsl_tree_expression.specs.View.{expression_node_view}
 use Rattle.wgsl_model.specs.Printed.Expressions.{print_expression_node, is_abstract_int, expression_in}
 
--- what stands on the left, or the node itself where nothing does
+-- what is on the left, or the node itself where nothing does
 abbrev pub left_of : ExpressionNode → ExpressionNode
 left_of (expression_node (named_component base component) span) = base
 left_of (expression_node (indexing base index) span) = base
@@ -30,24 +30,24 @@ abbrev mutual
   steps_of (binary operator left right) = suc (steps_in left)
   steps_of e = 0
 
--- what stands some steps down
+-- what is some steps down
 abbrev pub below : ℕ → ExpressionNode → ExpressionNode
 below zero node = node
 below (suc n) node = below n (left_of node)
 
--- what is printed behind the left side
-abbrev pub text_behind : Expression → List ℕ
-text_behind (named_component base component) =
+-- what is printed after the left side
+abbrev pub text_after : Expression → List ℕ
+text_after (named_component base component) =
     (if is_abstract_int (expression_in base) then codes " ." else codes ".") ++ component
-text_behind (indexing base index) = codes "[" ++ print_expression_node index ++ codes "]"
-text_behind (binary operator left right) = codes " " ++ binary_operator_text operator ++ codes " "
+text_after (indexing base index) = codes "[" ++ print_expression_node index ++ codes "]"
+text_after (binary operator left right) = codes " " ++ binary_operator_text operator ++ codes " "
     ++ print_expression_node right
-text_behind e = []
+text_after e = []
 
--- what is printed behind what stands some steps down
+-- what is printed after what is some steps down
 abbrev pub text_above : ℕ → ExpressionNode → List ℕ
 text_above zero node = []
-text_above (suc n) node = text_above n (left_of node) ++ text_behind (expression_in node)
+text_above (suc n) node = text_above n (left_of node) ++ text_after (expression_in node)
 
 -- the same with something else on the left
 abbrev pub with_left : Expression → ExpressionNode → Expression
@@ -57,8 +57,8 @@ with_left (binary operator first right) left = binary operator left right
 with_left e left = e
 
 -- two with operators between their operands are the same but for their left operands
-abbrev pub same_behind : BinaryExpression → BinaryExpression → Bool
-same_behind x y =
+abbrev pub same_after : BinaryExpression → BinaryExpression → Bool
+same_after x y =
     same (binary_operator_code (binary_operator_view (out-BinaryExpression x).operator))
     (binary_operator_code (binary_operator_view (out-BinaryExpression y).operator))
     && same (expression_node_code (expression_node_view (out-BinaryExpression x).right))

@@ -1,4 +1,4 @@
--- What `==` of names and of literals answers.
+-- What `==` of names and of literals returns.
 use Rattle.std.specs.Prelude.{Bool}
 use Rattle.wgsl_tree_expression.specs.declared.ident.Ident.{Ident}
 use Rattle.wgsl_tree_expression.specs.declared.literal.LiteralExpression.{LiteralExpression}

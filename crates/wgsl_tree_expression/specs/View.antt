@@ -137,7 +137,7 @@ type_expression_view = viewed folds.fold-TypeExpression
 abbrev pub unary_expression_view : UnaryExpression → plain.Expression
 unary_expression_view = viewed folds.fold-UnaryExpression
 
--- an expression and where it stands
+-- an expression and where it is
 abbrev pub expression_node_view : Spanned Expression → plain.ExpressionNode
 expression_node_view s =
     plain.expression_node (expression_view (spanned_node s)) (span_view (spanned_span s))

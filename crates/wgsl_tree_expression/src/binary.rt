@@ -2,7 +2,7 @@
 
 ghost use Rattle.std.specs.Prelude.{◌≡◌, IfOk, Some};
 ghost use Rattle.wgsl_tree_expression.specs.View.{expression_node_view, binary_expression_view};
-ghost use Rattle.wgsl_tree_expression.specs.Chains.{with_left, text_behind, same_behind};
+ghost use Rattle.wgsl_tree_expression.specs.Chains.{with_left, text_after, same_after};
 ghost use Rattle.std.specs.Fmt.{WritesOnOk};
 ghost use Rattle.wgsl_model.specs.Printed.Expressions.{print_expression};
 ghost use Rattle.std.specs.Cmp.{on_per};
@@ -61,11 +61,11 @@ impl BinaryExpression {
         })
     }
 
-    /// Writes what is printed behind the left operand.
+    /// Writes what is printed after the left operand.
     #[cycle(display)]
-    pub(crate) fn write_behind<W: fmt::Write>(&self, f: &mut fmt::Formatter<W>) -> fmt::Result
+    pub(crate) fn write_after<W: fmt::Write>(&self, f: &mut fmt::Formatter<W>) -> fmt::Result
         ensures { WritesOnOk W.write_str_gives f.old result
-            (text_behind (binary_expression_view self.now)) f.new }
+            (text_after (binary_expression_view self.now)) f.new }
     {
         let operator = self.operator;
         let right = &self.right;
@@ -109,14 +109,14 @@ impl fmt::Display for BinaryExpression {
     #[cycle(display)]
     fn fmt<W: fmt::Write>(&self, f: &mut fmt::Formatter<W>) -> fmt::Result {
         write_chain(&self.left, f)?;
-        self.write_behind(f)
+        self.write_after(f)
     }
 }
 
 /// Whether two are equal in all but their left operands.
 #[cycle(equal)]
-pub(crate) fn equal_behind(x: &BinaryExpression, y: &BinaryExpression) -> bool
-    ensures { result ≡ same_behind x.now y.now }
+pub(crate) fn equal_after(x: &BinaryExpression, y: &BinaryExpression) -> bool
+    ensures { result ≡ same_after x.now y.now }
 {
     x.operator == y.operator && *x.right.node() == *y.right.node()
 }

@@ -1,5 +1,5 @@
 //! What goes down on the left side of an expression, where a text has operators, components or
-//! indices one behind another.
+//! indices one after another.
 
 ghost use Rattle.std.specs.Prelude.{◌≡◌, ◌+◌, ◌<◌, ◌≤◌, IfSome, IsNone, IfOk};
 ghost use Rattle.wgsl_tree_expression.specs.declared.expression.Expression.TheViews.{size-Expression};
@@ -10,7 +10,7 @@ ghost use Rattle.wgsl_model.specs.Printed.Expressions.{print_expression_node};
 ghost use Rattle.wgsl_tree_code.specs.Same.{same};
 ghost use Rattle.wgsl_tree_code.specs.ExpressionNodes.{expression_code};
 
-use crate::binary::equal_behind;
+use crate::binary::equal_after;
 use crate::expression::{Expression, ExpressionNode};
 use std::alloc::{AllocError, Global};
 use std::fmt;
@@ -39,7 +39,7 @@ fn left(node: &ExpressionNode) -> Option<&ExpressionNode>
     }
 }
 
-/// What stands on the left as many steps down as there are, up to a limit, and their number.
+/// What is on the left as many steps down as there are, up to a limit, and their number.
 #[tactic(auto, using(crate::proofs::Chains::below_more))]
 pub fn descend(top: &ExpressionNode, limit: usize) -> (&ExpressionNode, usize)
     ensures view { expression_node_view result.0.now
@@ -95,7 +95,7 @@ pub(crate) fn clone_node(node: &ExpressionNode, alloc: Global) -> Result<Express
     Spanned::new(alloc, node.node().clone_with(alloc)?, node.span())
 }
 
-/// Copies an expression: first what stands furthest down on the left, then what is around it.
+/// Copies an expression: first what is furthest down on the left, then what is around it.
 #[cycle(clone)]
 pub(crate) fn clone_chain(top: &ExpressionNode, alloc: Global) -> Result<ExpressionNode, AllocError>
     ensures { IfOk result (λ copy. expression_node_view copy ≡ expression_node_view top.now) }
@@ -105,7 +105,7 @@ pub(crate) fn clone_chain(top: &ExpressionNode, alloc: Global) -> Result<Express
     clone_above(top, steps, copy, alloc)
 }
 
-/// Copies what is around a copy of what stands some steps down. It calls itself for the lower half
+/// Copies what is around a copy of what is some steps down. It calls itself for the lower half
 /// of the steps, so no more calls are open than their number has binary digits.
 #[cycle(clone)]
 #[tactic(auto, using(crate::proofs::Chains::copies))]
@@ -158,7 +158,7 @@ pub(crate) fn equal_chains(a: &ExpressionNode, b: &ExpressionNode) -> bool
                 second = y.base.node();
             }
             (Expression::Binary(x), Expression::Binary(y)) => {
-                if !equal_behind(x, y) {
+                if !equal_after(x, y) {
                     return false;
                 }
                 first = x.left.node();
@@ -169,7 +169,7 @@ pub(crate) fn equal_chains(a: &ExpressionNode, b: &ExpressionNode) -> bool
     }
 }
 
-/// Writes an expression: first what stands furthest down on the left, then what is behind it.
+/// Writes an expression: first what is furthest down on the left, then what is after it.
 #[cycle(display)]
 pub(crate) fn write_chain<W: fmt::Write>(
     top: &ExpressionNode,
@@ -183,7 +183,7 @@ pub(crate) fn write_chain<W: fmt::Write>(
     write_above(top, steps, f)
 }
 
-/// Writes what is printed behind what stands some steps down. It calls itself for the lower half
+/// Writes what is printed after what is some steps down. It calls itself for the lower half
 /// of the steps, so no more calls are open than their number has binary digits.
 #[cycle(display)]
 #[tactic(auto, using(crate::proofs::Chains::half_some))]
@@ -205,5 +205,5 @@ fn write_above<W: fmt::Write>(
     if left == 0 {
         return Ok(());
     }
-    top.node().write_behind(f)
+    top.node().write_after(f)
 }

@@ -2,7 +2,7 @@
 
 ghost use Rattle.std.specs.Prelude.{◌≡◌, IfOk, Some};
 ghost use Rattle.wgsl_tree_expression.specs.View.{ident_name, expression_node_view, expression_view};
-ghost use Rattle.wgsl_tree_expression.specs.Chains.{with_left, text_behind};
+ghost use Rattle.wgsl_tree_expression.specs.Chains.{with_left, text_after};
 ghost use Rattle.std.specs.Fmt.{WritesOnOk};
 ghost use Rattle.wgsl_model.specs.Printed.Expressions.{print_expression, is_abstract_int, fuses};
 ghost use Rattle.wgsl_tree_words.specs.View.{unary_operator_view};
@@ -71,16 +71,16 @@ impl Expression {
         }
     }
 
-    /// Writes what is printed behind the left side.
+    /// Writes what is printed after the left side.
     #[cycle(display)]
-    pub(crate) fn write_behind<W: fmt::Write>(&self, f: &mut fmt::Formatter<W>) -> fmt::Result
+    pub(crate) fn write_after<W: fmt::Write>(&self, f: &mut fmt::Formatter<W>) -> fmt::Result
         ensures { WritesOnOk W.write_str_gives f.old result
-            (text_behind (expression_view self.now)) f.new }
+            (text_after (expression_view self.now)) f.new }
     {
         match self {
-            Expression::NamedComponent(inner) => inner.write_behind(f),
-            Expression::Indexing(inner) => inner.write_behind(f),
-            Expression::Binary(inner) => inner.write_behind(f),
+            Expression::NamedComponent(inner) => inner.write_after(f),
+            Expression::Indexing(inner) => inner.write_after(f),
+            Expression::Binary(inner) => inner.write_after(f),
             Expression::Literal(_)
             | Expression::Parenthesized(_)
             | Expression::Unary(_)

@@ -2,7 +2,7 @@
 
 ghost use Rattle.std.specs.Prelude.{◌≡◌, IfOk, Some};
 ghost use Rattle.wgsl_tree_expression.specs.View.{expression_node_view, indexing_expression_view};
-ghost use Rattle.wgsl_tree_expression.specs.Chains.{with_left, text_behind};
+ghost use Rattle.wgsl_tree_expression.specs.Chains.{with_left, text_after};
 ghost use Rattle.std.specs.Fmt.{WritesOnOk};
 ghost use Rattle.wgsl_model.specs.Printed.Expressions.{print_expression};
 ghost use Rattle.std.specs.Cmp.{on_per};
@@ -54,11 +54,11 @@ impl IndexingExpression {
         })
     }
 
-    /// Writes what is printed behind the base.
+    /// Writes what is printed after the base.
     #[cycle(display)]
-    pub(crate) fn write_behind<W: fmt::Write>(&self, f: &mut fmt::Formatter<W>) -> fmt::Result
+    pub(crate) fn write_after<W: fmt::Write>(&self, f: &mut fmt::Formatter<W>) -> fmt::Result
         ensures { WritesOnOk W.write_str_gives f.old result
-            (text_behind (indexing_expression_view self.now)) f.new }
+            (text_after (indexing_expression_view self.now)) f.new }
     {
         let index = &self.index;
         write!(f, "[{index}]")
@@ -99,6 +99,6 @@ impl fmt::Display for IndexingExpression {
     #[cycle(display)]
     fn fmt<W: fmt::Write>(&self, f: &mut fmt::Formatter<W>) -> fmt::Result {
         write_chain(&self.base, f)?;
-        self.write_behind(f)
+        self.write_after(f)
     }
 }

@@ -2,7 +2,7 @@
 
 ghost use Rattle.std.specs.Prelude.{◌≡◌, IfOk, Some};
 ghost use Rattle.wgsl_tree_expression.specs.View.{expression_node_view, named_component_expression_view};
-ghost use Rattle.wgsl_tree_expression.specs.Chains.{with_left, text_behind};
+ghost use Rattle.wgsl_tree_expression.specs.Chains.{with_left, text_after};
 ghost use Rattle.std.specs.Fmt.{WritesOnOk};
 ghost use Rattle.wgsl_model.specs.Printed.Expressions.{print_expression};
 ghost use Rattle.std.specs.Cmp.{on_per};
@@ -54,10 +54,10 @@ impl NamedComponentExpression {
         })
     }
 
-    /// Writes what is printed behind the base.
-    pub(crate) fn write_behind<W: fmt::Write>(&self, f: &mut fmt::Formatter<W>) -> fmt::Result
+    /// Writes what is printed after the base.
+    pub(crate) fn write_after<W: fmt::Write>(&self, f: &mut fmt::Formatter<W>) -> fmt::Result
         ensures { WritesOnOk W.write_str_gives f.old result
-            (text_behind (named_component_expression_view self.now)) f.new }
+            (text_after (named_component_expression_view self.now)) f.new }
     {
         let component = &self.component;
         if self.base.node().is_abstract_int() {
@@ -102,6 +102,6 @@ impl fmt::Display for NamedComponentExpression {
     #[cycle(display)]
     fn fmt<W: fmt::Write>(&self, f: &mut fmt::Formatter<W>) -> fmt::Result {
         write_chain(&self.base, f)?;
-        self.write_behind(f)
+        self.write_after(f)
     }
 }

@@ -24,7 +24,7 @@ opening (binary operator left right) =
     ++ codes ",\"right\":" ++ form (expression_node_code right) ++ codes ",\"left\":"
 opening e = form (expression_code e)
 
--- what ends so many expressions around one
+-- what ends a number of expressions around one
 abbrev pub ends : ℕ → List ℕ
 ends zero = []
 ends (suc above) = codes "}}}" ++ ends above

@@ -104,7 +104,7 @@ pub fn write_expression_node<W: fmt::Write>(
     write_ends(usize::MAX, f)
 }
 
-/// Writes what ends so many expressions around one.
+/// Writes what ends a number of expressions around one.
 fn write_ends<W: fmt::Write>(above: usize, f: &mut fmt::Formatter<W>) -> fmt::Result
     ensures { WritesOnOk W.write_str_gives f.old result (ends above) f.new }
 {

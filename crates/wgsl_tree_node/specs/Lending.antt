@@ -6,7 +6,7 @@ use Rattle.wgsl_span.specs.contracts.Spanned.{the_row as spanned_row}
 use Rattle.wgsl_tree_attribute.specs.declared.attribute.Attribute.{Attribute}
 use Rattle.wgsl_tree_attribute.specs.contracts.attribute.Attribute.{the_row as attribute_row}
 
--- s ends with the last list behind r as its attributes, as `with` gives it
+-- s ends with the last list after r as its attributes, as `with` gives it
 abbrev pub LendsAttributes : (Node : RattleType) → (Node.Denot → List (Spanned Attribute) → Node.Denot)
     → MutBor Node.Denot → MutBor (List (Spanned Attribute)) → Fml
 LendsAttributes Node with s r = Lends Node (Array (spanned_row attribute_row) 0) s r (with s.now)

@@ -17,7 +17,7 @@ use Rattle.wgsl_tree_attribute.specs.contracts.attribute.Attribute.{the_row as a
 abbrev pub AttributeList : Type 0
 AttributeList = Vec (Spanned Attribute) Global
 
--- s ends with the last list behind r as its own, as `with` gives it, and as it was where r is
+-- s ends with the last list after r as its own, as `with` gives it, and as it was where r is
 -- `None`
 abbrev pub LendsList : (Node : RattleType) → (Node.Denot → AttributeList → Node.Denot)
     → MutBor Node.Denot → Option (MutBor AttributeList) → Fml

@@ -1,4 +1,5 @@
--- Written by tools/tables/node_lists.py from crates/wgsl_model/nodes: lists of attributes by variants.
+-- Written by tools/tables/node_lists.py from crates/wgsl_model/nodes: lists of attributes by
+-- variants.
 use Rattle.std.specs.Prelude.{Option, Some, None}
 use Rattle.wgsl_tree_node.specs.Parts.{AttributeList}
 use Rattle.wgsl_tree_statement.specs.declared.compound.CompoundStatement.{CompoundStatement}

@@ -23,7 +23,7 @@ use wgsl_tree_expression::Ident;
 
 /// A node of a tree.
 pub trait SyntaxNode {
-    // Where it stands, if it knows.
+    // Where it is, if it knows.
     ghost span_of: { Self → Option Span };
 
     // Its name, if it has one.
@@ -57,7 +57,7 @@ pub trait SyntaxNode {
     fn contains_attribute(&self, attribute: &Attribute) -> bool
         ensures { result ≡ list_any (λ node. equal_attributes (spanned_node node) attribute.now) (attributes_of self.now) };
 
-    /// Keeps the attributes for which the predicate answers true, as it left them, in order.
+    /// Keeps the attributes for which the predicate returns true, as it left them, in order.
     fn retain_attributes_mut<F: FnMut(&mut Attribute) -> bool>(&mut self, f: F)
         requires { F.IsAlwaysCallable f }
         ensures kept { RetainsInTurn

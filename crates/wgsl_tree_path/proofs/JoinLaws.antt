@@ -11,7 +11,7 @@ Names = List (List ℕ)
 abbrev path : PathOrigin → Names → ModulePath
 path origin components = record { origin = origin; components = components }
 
--- the length of names without their last ones, and others behind them
+-- the length of names without their last ones, and others after them
 kept_length : (m : ℕ) (xs ys : Names) → length (without_last_names m xs ++ ys) ≡ (length xs - m) + length ys
 kept_length m xs ys = length-append (without_last_names m xs) ys
     ∙ ap (λ n. n + length ys) (length-take-le (length xs - m) xs (omega arith))

@@ -8,7 +8,7 @@ use Rattle.wgsl_tree_path.specs.declared.path.PathOrigin.TheVariants.{Absolute, 
 use Rattle.wgsl_tree_path.specs.View.{origin_view}
 use Rattle.wgsl_tree_path.proofs.Names.{same_names}
 
--- copies of names behind the names that are kept
+-- copies of names after the names that are kept
 pub joined_names : (all first added names : List (String Global)) (front : List (List ℕ))
     → all ≡ first ++ added → map string_bytes first ≡ front
     → AllZip (λ name copy. string_bytes copy ≡ string_bytes name) names added

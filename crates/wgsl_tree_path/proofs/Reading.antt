@@ -5,7 +5,7 @@ use Rattle.std.specs.List.{filter_map, cons_option, prefix_len}
 use Rattle.wgsl_model.specs.Tokens.Words.{look_up}
 use Rattle.wgsl_model.specs.Trees.Paths.{PathOrigin, PathFault, first_words, unless_faults, path_from, levels}
 
--- how many `super` stand first
+-- how many `super` are first
 
 pub is_other : (same : Bool) → true ≡ not same → same ≡ false
 is_other true e = e
@@ -33,9 +33,9 @@ pub levels_super : (part : List ℕ) (parts : List (List ℕ)) → bytes_eq part
     → levels (part ∷ parts) ≡ levels parts + 1
 levels_super part parts same = levels_suc part parts same ∙ omega arith
 
-pub behind_super : (part : List ℕ) (parts : List (List ℕ)) → bytes_eq part (codes "super") ≡ true
+pub after_super : (part : List ℕ) (parts : List (List ℕ)) → bytes_eq part (codes "super") ≡ true
     → drop (levels (part ∷ parts)) (part ∷ parts) ≡ drop (levels parts) parts
-behind_super part parts same = ap (λ n. drop n (part ∷ parts)) (levels_suc part parts same)
+after_super part parts same = ap (λ n. drop n (part ∷ parts)) (levels_suc part parts same)
 
 -- the components and the faults among them
 

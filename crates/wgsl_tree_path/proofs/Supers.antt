@@ -1,10 +1,10 @@
--- How many `super` stand first, and their text, one more at a time.
+-- How many `super` are first, and their text, one more at a time.
 use Rattle.std.proofs.Common.{ℕ, zero, suc, ◌+◌, ◌<◌, ◌≡◌, refl, sym, ◌∙◌, ap, List, ◌++◌, replicate, codes, arith}
 use Rattle.std.proofs.lemmas.List.{append_assoc}
 use Rattle.std.specs.List.{flat_map}
 use Rattle.wgsl_model.specs.Trees.Paths.{relative, origin_text}
 
--- the text of a `super` behind another
+-- the text of a `super` after another
 abbrev further : List ℕ → List ℕ
 further word = codes "::" ++ word
 

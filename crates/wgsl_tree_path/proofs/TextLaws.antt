@@ -8,7 +8,7 @@ use Rattle.std.proofs.lemmas.Bool.{and_parts}
 use Rattle.wgsl_model.specs.Printed.Joining.{joined}
 use Rattle.wgsl_model.specs.Tokens.Words.{look_up}
 use Rattle.wgsl_model.specs.Trees.Paths.{PathOrigin, absolute, relative, of_package, ModulePath, PathFault, empty, is_colon, path_parts, first_words, unless_faults, path_from, levels, path_of_parts, read_path, origin_text, path_text}
-use Rattle.wgsl_tree_path.proofs.Reading.{levels_suc, levels_other, behind_super}
+use Rattle.wgsl_tree_path.proofs.Reading.{levels_suc, levels_other, after_super}
 
 abbrev Names : Type 0
 Names = List (List ℕ)
@@ -40,10 +40,10 @@ onto a (part ∷ parts) = refl
 step : (a b : ℕ) (bs : List ℕ) (cuts : Bool) (rest others : Names) → (is_colon a && is_colon b) ≡ cuts
     → further rest ≡ codes "::" ++ bs → joined_parts others ≡ b ∷ bs
     → joined_parts (if cuts then [] ∷ rest else onto_first a others) ≡ a ∷ (b ∷ bs)
-step a b bs true rest others cuts behind joins =
+step a b bs true rest others cuts following joins =
     let colons = and_parts (is_colon a) (is_colon b) cuts in
-    behind ∙ (λ i. sym (eqb-true a 58 colons.0) i ∷ (sym (eqb-true b 58 colons.1) i ∷ bs))
-step a b bs false rest others cuts behind joins = onto a others ∙ ap (λ text. a ∷ text) joins
+    following ∙ (λ i. sym (eqb-true a 58 colons.0) i ∷ (sym (eqb-true b 58 colons.1) i ∷ bs))
+step a b bs false rest others cuts following joins = onto a others ∙ ap (λ text. a ∷ text) joins
 
 pub parts_joined : (text : List ℕ) → joined_parts (path_parts text) ≡ text
 parts_joined [] = refl
@@ -76,7 +76,7 @@ supers_step part parts true is rest =
     ap (λ text. codes "::" ++ (text ++ further parts)) (same_word part (codes "super") is)
     ∙ ap (λ text. codes "::super" ++ text) rest
     ∙ (λ i. further (replicate (sym (levels_suc part parts is) i) (codes "super"))
-    ++ further (sym (behind_super part parts is) i))
+    ++ further (sym (after_super part parts is) i))
 supers_step part parts false is rest =
     ap (λ n. further (replicate n (codes "super")) ++ further (drop n (part ∷ parts)))
     (sym (levels_other part parts is))
@@ -90,7 +90,7 @@ first_supers : (part : List ℕ) (parts : Names) → bytes_eq part (codes "super
     → joined_parts (origin_text (relative (levels (part ∷ parts)))
     ∷ drop (levels (part ∷ parts)) (part ∷ parts)) ≡ joined_parts (part ∷ parts)
 first_supers part parts is =
-    (λ i. joined_parts (origin_text (relative (levels_suc part parts is i)) ∷ behind_super part parts is i))
+    (λ i. joined_parts (origin_text (relative (levels_suc part parts is i)) ∷ after_super part parts is i))
     ∙ ap (λ text. codes "super" ++ text) (sym (supers parts))
     ∙ ap (λ word. word ++ further parts) (sym (same_word part (codes "super") is))
 
@@ -107,8 +107,8 @@ reads part parts path false true c d other word other_super e = from (relative 0
     ∙ ap (λ text. joined_parts (text ∷ parts)) (sym (same_word part (codes "self") word))
 reads part parts path false false true d other other_self word e =
     let origin = relative (levels (part ∷ parts)) in
-    let behind = drop (levels (part ∷ parts)) (part ∷ parts) in
-    from origin behind path e ∙ first_supers part parts word
+    let following = drop (levels (part ∷ parts)) (part ∷ parts) in
+    from origin following path e ∙ first_supers part parts word
 reads part parts path false false false true other other_self other_super e = absurd (cc)
 reads part parts path false false false false other other_self other_super e = from (of_package part) parts path e
 

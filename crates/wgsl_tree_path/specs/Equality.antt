@@ -1,4 +1,4 @@
--- What `==` of origins and of paths answers, and what their hashes are made of.
+-- What `==` of origins and of paths returns, and what their hashes are made of.
 use Rattle.std.specs.Prelude.{ℕ, Bool, List}
 use Rattle.wgsl_tree_path.specs.declared.path.PathOrigin.{PathOrigin}
 use Rattle.wgsl_tree_path.specs.declared.path.ModulePath.{ModulePath}

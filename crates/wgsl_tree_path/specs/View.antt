@@ -20,11 +20,11 @@ abbrev pub path_view : ModulePath → plain.ModulePath
 path_view path = plain_path (origin_view path.origin) (map string_bytes path.components.items)
 
 -- the origin of a path that is joined with a suffix, by the suffix's origin
-abbrev pub origin_behind : ModulePath → PathOrigin → plain.PathOrigin
-origin_behind path suffix = plain.joined_origin (origin_view path.origin)
+abbrev pub origin_after : ModulePath → PathOrigin → plain.PathOrigin
+origin_after path suffix = plain.joined_origin (origin_view path.origin)
     (length path.components.items) (origin_view suffix)
 
--- the fault that an error names, unless it is want of memory
+-- the fault that an error names, unless it is a failed allocation
 abbrev pub parse_fault : ModulePathParseError → Option plain.PathFault
 parse_fault error.Empty = Some plain.empty
 parse_fault error.MisplacedPackage = Some plain.misplaced_package

@@ -2,7 +2,7 @@
 
 ghost use Rattle.std.specs.Prelude.{◌≡◌, ◌↔◌, ◌++◌, IsTrue, IfOk, map, string_bytes};
 ghost use Rattle.wgsl_model.specs.Trees.Paths as plain;
-ghost use Rattle.wgsl_tree_path.specs.View.{origin_view, path_view, origin_behind};
+ghost use Rattle.wgsl_tree_path.specs.View.{origin_view, path_view, origin_after};
 
 use crate::path::clone_names;
 use crate::{ModulePath, PathOrigin};
@@ -46,8 +46,8 @@ impl ModulePath {
     }
 
     fn joined_origin(&self, alloc: Global, suffix: &PathOrigin) -> Result<PathOrigin, AllocError>
-        requires { plain.CountFits (origin_behind self.now suffix.now) }
-        ensures { IfOk result (λ origin. origin_view origin ≡ origin_behind self.now suffix.now) }
+        requires { plain.CountFits (origin_after self.now suffix.now) }
+        ensures { IfOk result (λ origin. origin_view origin ≡ origin_after self.now suffix.now) }
     {
         match (&self.origin, suffix) {
             (PathOrigin::Package(name), PathOrigin::Package(inner)) => {

@@ -88,7 +88,7 @@ impl ModulePath {
         Ok(())
     }
 
-    /// The first component, which stands behind the origin.
+    /// The first component, which is after the origin.
     pub fn first(&self) -> Option<&str>
         ensures { option_copied result ≡ slice_get (path_view self.now).components 0 }
     {

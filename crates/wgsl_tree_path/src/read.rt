@@ -9,9 +9,10 @@ use crate::{ModulePath, ModulePathParseError, PathOrigin};
 use std::alloc::Global;
 
 impl ModulePath {
-    /// Reads a path: its parts stand between `::`. The first is `package`, `self`, as many `super` as there are levels
-    /// to go up, or the name of a package; the others are components, which may be empty. `Empty` where the first part
-    /// is empty; where another part is `package`, `self` or `super`, the fault of the first that is.
+    /// Reads a path: its parts are between `::`. The first is `package`, `self`, as many `super` as
+    /// there are levels to go up, or the name of a package; the others are components, which may be
+    /// empty. `Empty` where the first part is empty; where another part is `package`, `self` or
+    /// `super`, the fault of the first that is.
     pub fn from_str(alloc: Global, text: &str) -> Result<Self, ModulePathParseError>
         ensures read { IfOk result (λ path. plain.read_path text.now ≡ Ok (path_view path)) }
         ensures refused { IfErr result (λ e.
@@ -19,22 +20,22 @@ impl ModulePath {
     {
         let (first, rest) = first_part(text);
         match first {
-            "package" => read_behind(alloc, PathOrigin::Absolute, rest),
-            "self" => read_behind(alloc, PathOrigin::Relative(0), rest),
+            "package" => read_after(alloc, PathOrigin::Absolute, rest),
+            "self" => read_after(alloc, PathOrigin::Relative(0), rest),
             "super" => {
                 let (levels, rest) = split_levels(text);
-                read_behind(alloc, PathOrigin::Relative(levels), rest)
+                read_after(alloc, PathOrigin::Relative(levels), rest)
             }
             "" => Err(ModulePathParseError::Empty),
             name => {
                 let name = String::from_str(alloc, name)?;
-                read_behind(alloc, PathOrigin::Package(name), rest)
+                read_after(alloc, PathOrigin::Package(name), rest)
             }
         }
     }
 }
 
-/// The part before the first `::` and the text behind it, or the whole text.
+/// The part before the first `::` and the text after it, or the whole text.
 fn first_part(text: &str) -> (&str, Option<&str>)
     ensures { plain.path_parts text.now ≡ result.0.now ∷ parts_left (option_copied result.1) }
 {
@@ -44,7 +45,7 @@ fn first_part(text: &str) -> (&str, Option<&str>)
     }
 }
 
-/// How many `super` stand first, and the text behind them.
+/// How many `super` are first, and the text after them.
 fn split_levels(text: &str) -> (usize, Option<&str>)
     ensures levels { result.0 ≡ plain.levels (plain.path_parts text.now) }
     ensures rest { let parts = plain.path_parts text.now in
@@ -67,7 +68,7 @@ fn split_levels(text: &str) -> (usize, Option<&str>)
 }
 
 /// Reads the path with this origin, and the parts of the text as its components.
-fn read_behind(
+fn read_after(
     alloc: Global,
     origin: PathOrigin,
     rest: Option<&str>,
@@ -85,7 +86,7 @@ fn read_behind(
     Ok(ModulePath { origin, components })
 }
 
-/// Reads the components behind any origin.
+/// Reads the components after any origin.
 fn read_components(alloc: Global, text: &str) -> Result<Vec<String>, ModulePathParseError>
     ensures read { IfOk result (λ names. (origin : plain.PathOrigin)
         → plain.path_from origin (plain.path_parts text.now)

@@ -18,7 +18,7 @@ pub not_nil : {X : Type 0} (xs : List X) (x : X) → false ≡ is_nil (xs ++ (x 
 not_nil [] x = refl
 not_nil (y ∷ xs) x = refl
 
--- what stands before the next text of a block: four spaces, and else what separates two
+-- what is before the next text of a block: four spaces, and else what separates two
 abbrev pub before_line : List ℕ → Bool → List ℕ
 before_line separator first = if first then codes "    " else separator
 
@@ -28,7 +28,7 @@ BeginsFilled [] = Unit {0}
 BeginsFilled ([] ∷ ts) = ⊥
 BeginsFilled ((b ∷ bs) ∷ ts) = Unit {0}
 
--- texts in a block, behind the four spaces before the first
+-- texts in a block, after the four spaces before the first
 abbrev pub block_lines : List ℕ → List (List ℕ) → List ℕ
 block_lines separator texts = begun (joined separator texts)
 

@@ -27,7 +27,7 @@ statement_is s end same = ap (λ z. unended s ++ z) same
 pub compound_is : (b : CompoundStatement) → print_opened b ++ codes "}" ≡ print_compound b
 compound_is (compound_statement attributes ss) = simp append_assoc
 
--- what stands on lines of its own in a block is not empty
+-- what is on lines of its own in a block is not empty
 pub break_if_filled : (b : Attributed BreakIfStatement) → IsFilled (print_attributed print_break_if b)
 break_if_filled b = right_filled (print_attribute_line b.attributes) (print_break_if b.node) tt
 
@@ -73,7 +73,7 @@ else_clause_is c attributes block same =
     ≡ print_else_clause (else_clause attributes block) = simp append_assoc in
     whole ∙ sym (ap (λ c. print_else_clause c) same)
 
--- what stands before braces, and lines between them
+-- what is before braces, and lines between them
 braced_is : (line word e body text : List ℕ)
     → line ++ (word ++ e ++ codes " ") ++ (body ++ codes "{\n") ++ text ++ codes "\n" ++ codes "}"
     ≡ (line ++ (word ++ e ++ codes " " ++ body ++ (codes "{\n" ++ text ++ codes "\n}")))

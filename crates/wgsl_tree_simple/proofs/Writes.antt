@@ -4,7 +4,7 @@ use Rattle.wgsl_writer.specs.declared.indented.Indented.{Indented}
 use Rattle.wgsl_writer.specs.Writing.{Wrote}
 use Rattle.wgsl_writer.proofs.Through.{wrote_append}
 
--- one text, and the next behind it
+-- one text, and the next after it
 infixl 10 ◌▸◌
 pub ◌▸◌ : {W : Type 0} {took : W → List ℕ → W → Type 0} {a b c : Indented W} {xs ys : List ℕ}
     → Wrote took a xs b → Wrote took b ys c → Wrote took a (xs ++ ys) c

@@ -1,4 +1,4 @@
--- What `==` of declarations, and of the statements that hold no others, answers.
+-- What `==` of declarations, and of the statements that hold no others, returns.
 use Rattle.std.specs.Prelude.{Bool}
 use Rattle.wgsl_tree_simple.specs.declared.declaration.DeclarationKind.{DeclarationKind}
 use Rattle.wgsl_tree_simple.specs.declared.declaration.Declaration.{Declaration}

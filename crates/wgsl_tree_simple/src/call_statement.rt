@@ -1,4 +1,4 @@
-//! Calls that stand alone.
+//! Calls that are alone.
 #![tactic(auto, using(std::proofs::lemmas::List::append_assoc))]
 
 ghost use Rattle.std.specs.Prelude.{◌≡◌, Some};

@@ -28,7 +28,7 @@ pub struct ConstAssert {
 pub type ConstAssertStatement = ConstAssert;
 
 impl ConstAssert {
-    /// Asserts the expression, which stands nowhere.
+    /// Asserts the expression, which is nowhere.
     pub fn new(alloc: Global, expression: Expression) -> Result<Self, AllocError>
         ensures { IfOk result (λ made. assert_view made ≡ without_attributes
             (record { expression = expression_node (expression_view expression) no_span })) }

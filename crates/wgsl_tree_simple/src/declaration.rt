@@ -99,7 +99,7 @@ fn write_value<W: fmt::Write>(declaration: &Declaration, f: &mut fmt::Formatter<
     write_initializer(&declaration.initializer, f)
 }
 
-/// Writes the type behind a colon, if there is one.
+/// Writes the type after a colon, if there is one.
 fn write_type<W: fmt::Write>(ty: &Option<TypeExpression>, f: &mut fmt::Formatter<W>) -> fmt::Result
     ensures { WritesOnOk W.write_str_gives f.old result
         (print_typed (option_map type_expression_view ty.now)) f.new }
@@ -110,7 +110,7 @@ fn write_type<W: fmt::Write>(ty: &Option<TypeExpression>, f: &mut fmt::Formatter
     }
 }
 
-/// Writes the value behind an equals sign, if there is one.
+/// Writes the value after an equals sign, if there is one.
 fn write_initializer<W: fmt::Write>(
     initializer: &Option<ExpressionNode>,
     f: &mut fmt::Formatter<W>,

@@ -118,7 +118,7 @@ impl fmt::Display for Selectors<'_> {
     }
 }
 
-/// Writes what stands before the block of a clause.
+/// Writes what is before the block of a clause.
 pub fn write_case<W: fmt::Write>(
     selectors: &[CaseSelector],
     out: &mut Indented<'_, W>,
@@ -131,7 +131,7 @@ pub fn write_case<W: fmt::Write>(
     out.write_piece(" ")
 }
 
-/// Writes what stands before a text in a block: before the first the four spaces, before each other a
+/// Writes what is before a text in a block: before the first the four spaces, before each other a
 /// line end.
 pub fn write_gap<W: fmt::Write>(first: bool, out: &mut Indented<'_, W>) -> fmt::Result
     ensures { WritesInto W.write_str_gives out.old result

@@ -26,7 +26,7 @@ pub struct ReturnStatement {
 }
 
 impl ReturnStatement {
-    /// Returns the expression, which stands nowhere.
+    /// Returns the expression, which is nowhere.
     pub fn from_expression(alloc: Global, expression: Expression) -> Result<Self, AllocError>
         ensures { IfOk result (λ made. return_view made ≡ without_attributes
             (record { expression = Some (expression_node (expression_view expression) no_span) })) }

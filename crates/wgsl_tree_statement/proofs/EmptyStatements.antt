@@ -55,7 +55,7 @@ pub clauses_full : (cs : List plain.SwitchClause)
 clauses_full [] = refl
 clauses_full (c ∷ cs) = ap (plain.clause_before (full_switch_clause c)) (clauses_full cs)
 
--- a statement without the empty ones of its lists, where it stands
+-- a statement without the empty ones of its lists, where it is
 abbrev pub full_node : plain.StatementNode → plain.StatementNode
 full_node (plain.statement_node s span) = plain.statement_node (full_statement s) span
 

@@ -1,5 +1,5 @@
--- Written by tools/tables/cycle_views.py from crates/wgsl_model/nodes: what each view is of one layer, and
--- of each variant.
+-- Written by tools/tables/cycle_views.py from crates/wgsl_model/nodes: what each view is of one
+-- layer, and of each variant.
 use Rattle.std.proofs.Common.{List, [], ◌∷◌, Option, None, Some, map, ◌≡◌, refl, sym, ◌∙◌, ap}
 use Rattle.std.specs.Option.{option_map}
 use Rattle.std.specs.declared.vec.Vec.{Vec}

@@ -1,4 +1,4 @@
-//! The clauses of an `if` behind its first.
+//! The clauses of an `if` after its first.
 
 ghost use Rattle.std.specs.Prelude.{Some};
 ghost use Rattle.wgsl_tree_statement.specs.View.{else_if_clause_view, else_clause_view};

@@ -13,7 +13,7 @@ use Rattle.wgsl_span.specs.View.{spanned_view}
 use Rattle.wgsl_tree_unit.specs.declared.global_declaration.GlobalDeclaration.{GlobalDeclaration}
 use Rattle.wgsl_tree_unit.specs.View.{global_declaration_view}
 
--- what stands before the next text
+-- what is before the next text
 abbrev pub before_next : List ℕ → List (List ℕ) → List ℕ
 before_next separator [] = []
 before_next separator (t ∷ ts) = separator

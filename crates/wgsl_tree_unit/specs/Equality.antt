@@ -1,4 +1,4 @@
--- What `==` of modules, of their directives and of their declarations answers.
+-- What `==` of modules, of their directives and of their declarations returns.
 use Rattle.std.specs.Prelude.{Bool}
 use Rattle.wgsl_tree_unit.specs.declared.diagnostic.DiagnosticDirective.{DiagnosticDirective}
 use Rattle.wgsl_tree_unit.specs.declared.extensions.EnableDirective.{EnableDirective}

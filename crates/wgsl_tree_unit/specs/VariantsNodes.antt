@@ -1,4 +1,5 @@
--- Written by tools/tables/tree_nodes.py from crates/wgsl_model/nodes: which variant a plain tree is.
+-- Written by tools/tables/tree_nodes.py from crates/wgsl_model/nodes: which variant a plain tree
+-- is.
 use Rattle.std.specs.Prelude.{Bool, true, false}
 use Rattle.wgsl_model.specs.Trees.Units as plain
 

@@ -36,7 +36,7 @@ abbrev pub requires_directive_view : RequiresDirective → Attributed plain.Requ
 requires_directive_view d = with_attributes (attributes_view d.attributes.items)
     (record { extensions = map string_bytes d.extensions.items })
 
--- a node behind its attributes, as a directive of its kind
+-- a node after its attributes, as a directive of its kind
 abbrev pub as_directive : {Node : Type 0} → (Node → plain.UnattributedDirective) → Attributed Node
     → plain.GlobalDirective
 as_directive kind a = with_attributes a.attributes (kind a.node)

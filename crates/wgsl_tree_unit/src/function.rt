@@ -118,7 +118,7 @@ fn write_head<W: fmt::Write>(
     write!(f, "{attributes}fn {ident}(")
 }
 
-/// Writes what a function returns behind an arrow, if it is there.
+/// Writes what a function returns after an arrow, if it is there.
 fn write_result<W: fmt::Write>(
     attributes: &Attributes,
     ty: &Option<TypeExpression>,

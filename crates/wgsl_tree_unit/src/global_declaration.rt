@@ -25,7 +25,7 @@ pub enum GlobalDeclaration {
     ConstAssert(ConstAssert),
 }
 
-/// A declaration of a module and where it stands.
+/// A declaration of a module and where it is.
 pub type GlobalDeclarationNode = Spanned<GlobalDeclaration>;
 
 impl GlobalDeclaration {

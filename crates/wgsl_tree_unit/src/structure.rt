@@ -57,7 +57,7 @@ pub struct StructMember {
     pub ty: TypeExpression,
 }
 
-/// A member of a structure and where it stands.
+/// A member of a structure and where it is.
 pub type StructMemberNode = Spanned<StructMember>;
 
 impl StructMember {
@@ -132,7 +132,7 @@ fn write_member_lines<W: fmt::Write>(
     Ok(())
 }
 
-/// Writes what stands before a member: before the first the four spaces, before each other a `,` and
+/// Writes what is before a member: before the first the four spaces, before each other a `,` and
 /// a line end.
 fn write_member_gap<W: fmt::Write>(first: bool, out: &mut Indented<'_, W>) -> fmt::Result
     ensures { WritesInto W.write_str_gives out.old result

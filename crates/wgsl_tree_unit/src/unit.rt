@@ -60,7 +60,7 @@ impl fmt::Display for TranslationUnit {
     }
 }
 
-/// Writes directives on lines of their own, and an empty line behind them if there are any.
+/// Writes directives on lines of their own, and an empty line after them if there are any.
 fn write_directives<W: fmt::Write>(
     directives: &[GlobalDirective],
     f: &mut fmt::Formatter<W>,

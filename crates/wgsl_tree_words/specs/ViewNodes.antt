@@ -1,4 +1,5 @@
--- Written by tools/tables/tree_words.py from crates/wgsl_model/nodes: operators and values as plain data.
+-- Written by tools/tables/tree_words.py from crates/wgsl_model/nodes: operators and values as plain
+-- data.
 use Rattle.wgsl_model.specs.Trees.NamedValues as plain
 use Rattle.wgsl_model.specs.Trees.Operators as plain_operator
 use Rattle.wgsl_tree_words.specs.declared.words_nodes.DiagnosticSeverity.{DiagnosticSeverity}

@@ -9,7 +9,7 @@ use Rattle.std.specs.declared.fmt.Error.{Error}
 use Rattle.wgsl_model.specs.Printed.Joining.{joined}
 use Rattle.wgsl_writer.specs.Joined.{further_output, joined_output}
 
--- what stands before the item at an index
+-- what is before the item at an index
 abbrev pub before : List ℕ → ℕ → List ℕ
 before separator zero = []
 before separator (suc k) = separator

@@ -20,7 +20,7 @@ module _ {W : Type 0} (took : W → List ℕ → W → Type 0) where
     written = λ plain. record { wrote = writes_in_calls_nil took s.to.now.writer; plain = plain };
   }
 
-  -- one text, and the next behind it
+  -- one text, and the next after it
   pub wrote_append : (a : Indented W) (xs : List ℕ) (b : Indented W) (ys : List ℕ) (c : Indented W)
       → Wrote took a xs b → Wrote took b ys c → Wrote took a (xs ++ ys) c
   wrote_append a xs b ys c p q =

@@ -9,7 +9,7 @@ ghost use Rattle.wgsl_writer.specs.Writing.{IsBack, IsDeeper, WritesInto, Wrote}
 use std::fmt;
 use std::fmt::Write;
 
-/// Writes into a formatter, with the spaces of a depth behind each line end.
+/// Writes into a formatter, with the spaces of a depth after each line end.
 #[derive(Drop)]
 pub struct Indented<'a, W> {
     to: &'a mut fmt::Formatter<W>,
@@ -110,7 +110,7 @@ fn write_lines<W: fmt::Write>(text: &str, first: usize, out: &mut Indented<'_, W
     out.to.write_str(left)
 }
 
-/// Writes the line that ends there, and gives what is behind it.
+/// Writes the line that ends there, and gives what is after it.
 fn write_line<'a, W: fmt::Write>(
     text: &'a str,
     end: usize,

@@ -1,4 +1,4 @@
-//! Texts in quotes, as the rows have them: pieces `"..."`, each with `* N` behind it where it
+//! Texts in quotes, as the rows have them: pieces `"..."`, each with `* N` after it where it
 //! stands N times.
 
 /// The bytes of the pieces of a line.
@@ -6,8 +6,8 @@ pub fn texts_of(line: &str) -> Vec<u8> {
     let mut whole = Vec::new();
     let mut left = line.trim();
     while let Some(inside) = left.strip_prefix('"') {
-        let (piece, behind) = piece_of(inside);
-        left = behind.trim_start();
+        let (piece, after) = piece_of(inside);
+        left = after.trim_start();
         let mut times = 1;
         if let Some(counted) = left.strip_prefix('*') {
             let counted = counted.trim_start();
@@ -19,11 +19,11 @@ pub fn texts_of(line: &str) -> Vec<u8> {
         }
         whole.extend(piece.repeat(times));
     }
-    assert!(left.is_empty(), "behind a text stands {left}");
+    assert!(left.is_empty(), "after a text stands {left}");
     whole
 }
 
-/// The bytes up to the closing quote, and what stands behind it.
+/// The bytes up to the closing quote, and what stands after it.
 fn piece_of(text: &str) -> (Vec<u8>, &str) {
     let mut piece = Vec::new();
     let mut left = text;
@@ -37,7 +37,7 @@ fn piece_of(text: &str) -> (Vec<u8>, &str) {
     }
 }
 
-/// Puts what is written behind a `\`, and answers what stands behind that.
+/// Puts what is written after a `\`, and answers what stands after that.
 fn escaped<'t>(text: &'t str, piece: &mut Vec<u8>) -> &'t str {
     let rest = &text[1..];
     match &text[..1] {
@@ -49,11 +49,11 @@ fn escaped<'t>(text: &'t str, piece: &mut Vec<u8>) -> &'t str {
             return &rest[2..];
         }
         "u" => {
-            let (number, behind) = rest[1..].split_once('}').expect("a character");
+            let (number, after) = rest[1..].split_once('}').expect("a character");
             let number = u32::from_str_radix(number, 16).expect("a number");
             let character = char::from_u32(number).expect("a character");
             piece.extend_from_slice(character.to_string().as_bytes());
-            return behind;
+            return after;
         }
         other => piece.extend_from_slice(other.as_bytes()),
     }

@@ -85,7 +85,7 @@ explains_self (stuck us) w h = tt
 explains_self (bad x us) w h = refl
 explains_self out w h = h
 
--- what was taken before us, and that what follows stands directly after a token of the classes b,
+-- what was taken before us, and that what follows is directly after a token of the classes b,
 -- if e
 abbrev pub Taken : List ℕ → Bool → ℕ → List Token → List Token → Type 0
 Taken b e l ts us = (p : List Token) × (ts ≡ p ++ us) × (e ≡ true → is_among (last_class l p) b ≡ true)

@@ -21,7 +21,7 @@ use Rattle.grammar.proofs.Faults.Anchors.{Consumed, Explains, met_read, last_app
 use Rattle.grammar.proofs.Faults.NotAfter.{Gone, gone, gone_part, KeepsApart}
 
 -- ---- a reader that names a fault has read a faulty part
--- the faulty part of a list before which the class l stands
+-- the faulty part of a list before which the class l is
 abbrev pub Found : {N : Type 0} {Value : N → Type 0} (body : (n : N) → Grammar N Value (Value n)) (b : List ℕ)
     → ℕ → List Token → Fault → List Token → Type 0
 Found {N} body b l ts x us = (n : N) × (a xs : List Token) × (ts ≡ a ++ xs)

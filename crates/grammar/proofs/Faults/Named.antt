@@ -1,4 +1,4 @@
--- What is answered of a list and how it ended: the value that it derives, or the fault that is
+-- What is returned for a list and how it ended: the value that it derives, or the fault that is
 -- named.
 use Rattle.std.proofs.Common.{ℕ, List, [], ◌∷◌, refl, sym, ap, subst, append-nil}
 use Rattle.grammar.specs.Tokens.{Token, last_end}
@@ -21,7 +21,7 @@ sentence_is_viable : {N : Type 0} {Value : N → Type 0} (body : (n : N) → Gra
 sentence_is_viable body n ts (v, d) =
     ([], (v, subst (λ (x : List Token). Derives unchecked body n v x) (sym (append-nil ts)) d))
 
--- all that is answered of what the reader read is true
+-- all that is returned for what the reader read is true
 pub answers : {N : Type 0} {Value : N → Type 0} (T : Tables N)
     (body : (n : N) → Grammar N Value (Value n)) (R : ℕ) (apart : N → List ℕ) → IsTested T body R apart
     → (wording : Wording) (n : N) (ts : List Token) (ending : Ending)

@@ -1,4 +1,4 @@
--- What stands directly after no token of certain classes.
+-- What is directly after no token of certain classes.
 use Rattle.std.proofs.Common.{◌≡◌, ℕ, zero, suc, Bool, true, false, not, ◌&&◌, List, [], ◌∷◌, ◌++◌, inl, inr, refl, sym, ap, ◌∙◌}
 use Rattle.grammar.specs.Tokens.{Token, Span}
 use Rattle.grammar.specs.Grammar.{is_among, Grammar, Grammar.empty, Grammar.token, Grammar.sequence, Grammar.choice, Grammar.mapped, Grammar.node, Grammar.checked, Grammar.symbol, Grammar.left_chain, Mode, Chain, Chain.base, Chain.more, Means, Within, Part}
@@ -9,7 +9,7 @@ use Rattle.grammar.proofs.Reading.Beginnings.{cond_yes, cond_no}
 use Rattle.grammar.proofs.Reading.Frame.{Framed, framed, framed_within, joined}
 use Rattle.grammar.proofs.Faults.Anchors.{last_append}
 
--- ---- what stands directly after no token of the classes b
+-- ---- what is directly after no token of the classes b
 abbrev pub Gone : List ℕ → Bool → ℕ → List Token → List Token → Type 0
 Gone b d l ts us = (p : List Token) × (ts ≡ p ++ us) × (d ≡ false → is_among (last_class l p) b ≡ false)
 

@@ -22,10 +22,10 @@ pub record IsTested {N : Type 0} {Value : N → Type 0} (T : Tables N)
   pub passes : Passes T body R
   pub sentences : HasSentences body
   pub guarded : IsGuarded T body apart
-  pub behind : List ℕ
-  pub within : (n : N) → subset (apart n) behind ≡ true
-  pub keeps : KeepsApart body behind
-  pub no_token : is_among 0 behind ≡ false
+  pub following : List ℕ
+  pub within : (n : N) → subset (apart n) following ≡ true
+  pub keeps : KeepsApart body following
+  pub no_token : is_among 0 following ≡ false
 
 bad_of : {A : Type 0} (P : Fault → List Token → Type 0) (m : Outcome A) (x : Fault) (us : List Token)
     → OfBad P m → m ≡ bad x us → P x us
@@ -78,7 +78,7 @@ ended T body R apart s k n ts l (bad x us) e =
     let w = of_bad _ (read T checking body k n ts) x us
     (viable_read T checking body (sane T body R s.passes) s.sentences k n ts) e in
     let f = bad_of _ (read T checking body k n ts) x us
-    (faults_read T body (sane T body R s.passes) s.behind s.keeps k n 0 ts s.no_token) e in (
+    (faults_read T body (sane T body R s.passes) s.following s.keeps k n 0 ts s.no_token) e in (
       w.0,
       w.3,
       viable_front body n w.2 w.0 w.1 w.4,
@@ -87,7 +87,7 @@ ended T body R apart s k n ts l (bad x us) e =
         before = f.1;
         from = f.2;
         whole = f.3;
-        not_after = not_subset (last_class 0 f.1) (apart f.0) s.behind (s.within f.0) f.4;
+        not_after = not_subset (last_class 0 f.1) (apart f.0) s.following (s.within f.0) f.4;
         ended = f.5;
         faulty = f.6;
       },

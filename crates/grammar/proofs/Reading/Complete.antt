@@ -41,7 +41,7 @@ pub stops_apart : (r f : List ℕ) (ts : List Token) → disjoint r f ≡ true �
 stops_apart r f [] d e = refl
 stops_apart r f (t ∷ ts) d e = apart' t.class r f d e
 
--- before a part that begins with none of r stands none of r, if none stands behind an empty part
+-- before a part that begins with none of r is none of r, if none is after an empty part
 stops_before : (n : Bool) (r f : List ℕ) (xs ys : List Token) → Begins n f xs ys
     → disjoint r f ≡ true → Stops (cond n r []) ys → Stops r xs
 stops_before n r f xs ys (inl b) e h = subst (Stops r) (sym b.1) (subst (λ (x : Bool). Stops (cond x r []) ys) b.0 h)
@@ -192,7 +192,7 @@ pub complete_read : {N : Type 0} {Value : N → Type 0} (T : Tables N) (M : Mode
     → (k : ℕ) (n : N) → IsComplete (Part M body n) (T.more n) (read T M body k n)
 complete_read T M body s k n v xs ys d w = complete_within T M body s d.0 k n v xs ys d.1 w
 
--- ---- one by one, where a client knows more of what comes behind
+-- ---- one by one, where a client knows more of what comes after
 pub reads_token : (s : List ℕ) (v : Token) (xs ys : List Token) → is_among v.class s ≡ true
     → xs ≡ v ∷ ys → OrOut (take_token s xs) v ys
 reads_token s v xs ys e h = inl (ap (λ (x : List Token). take_token s x) h ∙ token_complete s v ys e)

@@ -55,7 +55,7 @@ lr_le T (symbol n) = le_refl _
 lr_le T (left_chain f g h) = max_cond (left_rank T g) (left_rank T h) (all_ranks T g)
     (all_ranks T h) (nullable T g) (lr_le T g) (lr_le T h)
 
--- With fuel enough for so many tokens and so high a rank, the reader is not out of fuel.
+-- With fuel enough for a number of tokens and so high a rank, the reader is not out of fuel.
 abbrev pub IsEnough : {A : Type 0} → ℕ → ℕ → (List Token → Outcome A) → ℕ → Type 0
 IsEnough R k r rank = (ts : List Token) → R * length ts + rank ≤ k → IsIn (r ts)
 

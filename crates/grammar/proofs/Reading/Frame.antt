@@ -1,4 +1,4 @@
--- A part does not depend on what comes behind it.
+-- A part does not depend on what comes after it.
 use Rattle.std.proofs.Common.{◌≡◌, ℕ, zero, suc, ◌-◌, List, [], ◌∷◌, ◌++◌, length, inl, inr, refl, sym, ap, subst, ◌∙◌, append_assoc, append-nil, arith, length-append}
 use Rattle.grammar.specs.Tokens.{Token, Span, span_of, first_tokens, tokens_between, span_between}
 use Rattle.grammar.specs.Grammar.{Grammar, Grammar.empty, Grammar.token, Grammar.sequence, Grammar.choice, Grammar.mapped, Grammar.node, Grammar.checked, Grammar.symbol, Grammar.left_chain, Mode, found, Chain, Chain.base, Chain.more, Means, Within, Part, Derives}
@@ -20,11 +20,11 @@ span_append xs rest =
     let e : length (xs ++ rest) - length rest ≡ length xs = omega (arith, length-append xs rest) in
     ap span_of (ap (λ (n : ℕ). first_tokens n (xs ++ rest)) e ∙ front_append xs rest)
 
--- a list of tokens that stands for v, whatever comes behind it
+-- a list of tokens that stands for v, whatever comes after it
 abbrev pub Word : {A : Type 0} → (A → List Token → List Token → Type 0) → A → List Token → Type 0
 Word P v p = (ys : List Token) → P v (p ++ ys) ys
 
--- what is derived is a word, which does not depend on what comes behind it
+-- what is derived is a word, which does not depend on what comes after it
 abbrev pub Framed : {A : Type 0} → (A → List Token → List Token → Type 0) → Type 0
 Framed {A} P = (v : A) (xs ys : List Token) → P v xs ys → (p : List Token) × (xs ≡ p ++ ys) × Word P v p
 

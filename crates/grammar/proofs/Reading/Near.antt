@@ -72,7 +72,7 @@ pub goes_read : {N : Type 0} {Value : N → Type 0} (T : Tables N) (M : Mode)
 goes_read T M body zero n ts = tt
 goes_read T M body (suc k) n ts = goes T M (read T M body k) (goes_read T M body k) (body n) ts
 
--- ---- two lists with one front: up to the token behind it both readers go the same way, checks
+-- ---- two lists with one front: up to the token after it both readers go the same way, checks
 -- aside
 abbrev pub Near : {A B : Type 0} → Token → List Token → List Token → Outcome A → Outcome B → Type 0
 Near {A} {B} t us zs (ok a r) m = (length r ≤ length us)
@@ -82,7 +82,7 @@ Near t us zs (stuck r) m = (length r ≤ length us)
 Near t us zs (bad x r) m = Unit {0}
 Near t us zs out m = Unit {0}
 
--- behind the token nothing is said
+-- after the token nothing is said
 near_past : {A B : Type 0} (t : Token) (us zs r : List Token) (m : Outcome A) (m' : Outcome B)
     → AtMost (length r) m → length r ≤ length us → Near t us zs m m'
 near_past t us zs r (ok a w) m' h l = inl (omega (arith, h, l))

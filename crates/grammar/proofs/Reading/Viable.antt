@@ -96,7 +96,7 @@ began_first E g h (b, q, wq) ts us (p, z, v, e, w) = (
       (word_sequence unchecked E g h v b (p ++ z) q w wq),
 )
 
--- behind a part
+-- after a part
 began_second : {N : Type 0} {Value : N → Type 0} (E : (n : N) → Value n → List Token → List Token → Type 0)
     {A B : Type 0} (g : Grammar N Value A) (h : Grammar N Value B) → ((n : N) → Framed (E n))
     → (a : A) (ts ms us : List Token) → Means unchecked E g a ts ms

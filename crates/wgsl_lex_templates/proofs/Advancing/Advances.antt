@@ -1,4 +1,4 @@
--- What is left behind a symbol of expressions is what is left behind its right side, and the
+-- What is left after a symbol of expressions is what is left after its right side, and the
 -- classes of the tokens tell it.
 use Rattle.std.proofs.Common.{◌≡◌, ℕ, zero, suc, ◌+◌, ◌*◌, ◌<◌, Bool, true, false, cond, not, ◌||◌, eqb, List, [], ◌∷◌, length, map, ◌⊎◌, inl, inr, refl, sym, ap, subst, ◌∙◌, arith}
 use Rattle.std.specs.Prelude.{Option, Some, None}

@@ -1,4 +1,4 @@
--- What is left behind each rule is what its right side leaves.
+-- What is left after each rule is what its right side leaves.
 use Rattle.std.proofs.Common.{◌≡◌, ℕ, cond, List, [], ◌∷◌, refl, sym, ap, ◌∙◌}
 use Rattle.std.specs.Prelude.{Option, Some}
 use Rattle.grammar.specs.Grammar.{Grammar.token, Grammar.sequence, Grammar.symbol}
@@ -66,7 +66,7 @@ argument_more_is cs =
     (take_is SymParenRight cs)
 
 -- ---- operators and operands
--- operators with an operand behind each
+-- operators with an operand after each
 operands_turn : (s : List ℕ) (f : List ℕ → Option (List ℕ)) → Shortens (λ cs. take_any s cs >>= f)
     → (cs : List ℕ)
     → turns s (λ cs. take_any s cs >>= f) cs

@@ -1,4 +1,4 @@
--- What is left behind the parts of an operand, and behind a whole list.
+-- What is left after the parts of an operand, and after a whole list.
 use Rattle.std.proofs.Common.{◌≡◌, ℕ, Bool, true, false, cond, ◌||◌, eqb, List, [], ◌∷◌, inl, inr, refl, sym, ap, ap₂, subst, ◌∙◌, arith}
 use Rattle.std.specs.Prelude.{Option, Some, None, ◌==◌, length}
 use Rattle.std.proofs.lemmas.Bool.Decides.{eqb_tells}
@@ -78,7 +78,7 @@ named_is cs =
     (advances (of template_list) ds) (Some ds) >>= optional_arguments) (ident_is cs)
     ∙ bind_alike (take Ident cs) _ _ (λ ds. ap (λ (m : Option (List ℕ)). m >>= optional_arguments) (template_is ds))
 
--- a name stands first where a name or a reserved word does
+-- a name is first where a name or a reserved word does
 name_first : (cs : List ℕ) (f g : List ℕ → Option (List ℕ))
     → cond (is_next (Ident ∷ ReservedWord ∷ []) cs) (take Ident cs >>= f)
     (if_there (take_any literals cs) Some (take SymParenLeft cs >>= g))
@@ -166,18 +166,18 @@ or_false : (b : Bool) → (b || false) ≡ b
 or_false true = refl
 or_false false = refl
 
-behind_comma : (ds : List ℕ) (m : Option (List ℕ)) → advances (of expression) ds ≡ m
+after_comma : (ds : List ℕ) (m : Option (List ℕ)) → advances (of expression) ds ≡ m
     → (is_whole (Some ds) || elim m as (λ r. Bool) [ None ↦ false | Some es ↦ whole_rest es ])
     ≡ elim m as (λ r. Bool) [ None ↦ is_whole (Some ds) | Some es ↦ whole_rest es ]
-behind_comma ds None e = or_false (is_whole (Some ds))
-behind_comma [] (Some es) e = absurd (let none = none_begins (of expression) refl refl [] refl in cc)
-behind_comma (d ∷ ds) (Some es) e = refl
+after_comma ds None e = or_false (is_whole (Some ds))
+after_comma [] (Some es) e = absurd (let none = none_begins (of expression) refl refl [] refl in cc)
+after_comma (d ∷ ds) (Some es) e = refl
 
 end_or_list : (ds : List ℕ) → (is_whole (Some ds) || whole_list ds)
     ≡ elim (advances (of expression) ds) as (λ r. Bool) [ None ↦ is_whole (Some ds) | Some es ↦ whole_rest es ]
 unfolding whole_list_at
 end_or_list ds = ap (λ (b : Bool). is_whole (Some ds) || b) (whole_list_is ds)
-    ∙ behind_comma ds (advances (of expression) ds) refl
+    ∙ after_comma ds (advances (of expression) ds) refl
 
 rest_opened : (cs : List ℕ) → whole_rest cs ≡ elim (take SymComma cs) as (λ r. Bool) [
   | None ↦ is_whole (Some cs)

@@ -100,7 +100,7 @@ tokens_are (c ∷ (d ∷ s)) cs =
     ∙ either_token (c ∷ []) (d ∷ s) cs
 
 -- ---- sets of classes
--- a part that begins with a token of one set, tried behind another
+-- a part that begins with a token of one set, tried after another
 pub later_choice : (s r cs : List ℕ) → disjoint r s ≡ true
     → (f : List ℕ → Option (List ℕ)) (x : Option (List ℕ)) → (is_next s cs ≡ false → x ≡ None)
     → cond (is_next s cs) x (take_any r cs >>= f) ≡ if_there (take_any r cs) f x

@@ -1,4 +1,4 @@
--- What is left behind each rule of expressions, as the functions go on: each a word of its own,
+-- What is left after each rule of expressions, as the functions go on: each a word of its own,
 -- which no computation opens.
 use Rattle.std.proofs.Common.{ℕ, Bool, true, false, ◌||◌, List, [], ◌∷◌}
 use Rattle.std.specs.Prelude.{Option, Some, None}
@@ -34,7 +34,7 @@ is_whole (Some (c ∷ cs)) = false
 unfoldable pub whole_list : List ℕ → Bool
 whole_list cs = is_whole (advances (of expressions) cs)
 
--- what is left behind an expression of the list ends it
+-- what is left after an expression of the list ends it
 unfoldable pub whole_rest : List ℕ → Bool
 whole_rest cs = elim (take SymComma cs) as (λ r. Bool) [
   | None ↦ is_whole (Some cs)

@@ -1,4 +1,4 @@
--- What is left behind a right side by classes alone, and that it is what the reader leaves.
+-- What is left after a right side by classes alone, and that it is what the reader leaves.
 use Rattle.std.proofs.Common.{◌≡◌, ℕ, zero, suc, Bool, true, false, cond, ◌&&◌, List, [], ◌∷◌, length, refl, sym, ap, ◌∙◌}
 use Rattle.std.specs.Prelude.{Option, Some, None}
 use Rattle.std.proofs.lemmas.List.{length-map}
@@ -13,7 +13,7 @@ use Rattle.wgsl_theory_grammar.specs.Tables.{tables}
 use Rattle.wgsl_lex_templates.specs.ExpressionLists.{classes_of}
 use Rattle.wgsl_lex_templates.specs.Advancing.{classes_left, ◌>>=◌, is_next, take_any, turns_in, turns}
 
--- what is left behind a right side without checks, where rec says what is left behind each symbol
+-- what is left after a right side without checks, where rec says what is left after each symbol
 abbrev pub walk : (rec : FactoredSymbol → List ℕ → Option (List ℕ)) {A : Type 0} → FactoredRule A
     → List ℕ → Option (List ℕ)
 walk rec (empty a) cs = Some cs

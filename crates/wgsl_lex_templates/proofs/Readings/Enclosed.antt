@@ -49,7 +49,7 @@ put short one two now content e f g =
     pushed two now kind.SymParenRight g ∙ ap (λ (x : List ℕ). x ++ SymParenRight ∷ []) both
     ∙ append_assoc cs (SymParenLeft ∷ ds) (SymParenRight ∷ [])
 
--- parentheses are put with what may stand in them
+-- parentheses are put with what may be in them
 pub group_put : (whole : List ℕ) (short one two now content left inner rest : List TokenKind)
     → one ≡ short ++ kind.SymParenLeft ∷ [] → two ≡ one ++ content → now ≡ two ++ kind.SymParenRight ∷ []
     → classes left ≡ in_parentheses (classes inner) ++ classes rest

@@ -9,31 +9,31 @@ use Rattle.wgsl_lex_token.specs.declared.kind_table.TokenKind.{TokenKind}
 use Rattle.wgsl_lex_token.specs.View.{class_of_kind}
 use Rattle.wgsl_lex_templates.specs.declared.kept.Piece.{Piece}
 use Rattle.wgsl_lex_templates.specs.declared.kept.Piece.TheVariants.{Token, Stretch}
-use Rattle.wgsl_lex_templates.specs.Kept.{values_between, value, values_behind, held, is_earlier, are_earlier}
+use Rattle.wgsl_lex_templates.specs.Kept.{values_between, value, values_after, held, is_earlier, are_earlier}
 
 -- ---- the classes of each piece
-values_of_all : (before : List (List ℕ)) (ps qs : List Piece) → values_behind before (ps ++ qs)
-    ≡ values_behind before ps ++ values_behind (before ++ values_behind before ps) qs
-values_of_all before [] qs = ap (λ b. values_behind b qs) (sym (append-nil before))
+values_of_all : (before : List (List ℕ)) (ps qs : List Piece) → values_after before (ps ++ qs)
+    ≡ values_after before ps ++ values_after (before ++ values_after before ps) qs
+values_of_all before [] qs = ap (λ b. values_after b qs) (sym (append-nil before))
 values_of_all before (p ∷ ps) qs =
     let v = value before p in
     let more = before ++ v ∷ [] in
-    ap (λ vs. v ∷ vs) (values_of_all more ps qs ∙ ap (λ b. values_behind more ps ++ values_behind b qs)
-    (append_assoc before (v ∷ []) (values_behind more ps)))
+    ap (λ vs. v ∷ vs) (values_of_all more ps qs ∙ ap (λ b. values_after more ps ++ values_after b qs)
+    (append_assoc before (v ∷ []) (values_after more ps)))
 
-values_length : (before : List (List ℕ)) (ps : List Piece) → length (values_behind before ps) ≡ length ps
+values_length : (before : List (List ℕ)) (ps : List Piece) → length (values_after before ps) ≡ length ps
 values_length before [] = refl
 values_length before (p ∷ ps) = ap suc (values_length (before ++ value before p ∷ []) ps)
 
 value_at : (before : List (List ℕ)) (ps : List Piece) (i : ℕ) (d : List ℕ) (p : Piece) → i < length ps
-    → get_or (values_behind before ps) i d ≡ value (before ++ take i (values_behind before ps)) (get_or ps i p)
+    → get_or (values_after before ps) i d ≡ value (before ++ take i (values_after before ps)) (get_or ps i p)
 value_at before [] i d p l = absurd (omega arith)
 value_at before (q ∷ qs) zero d p l = ap (λ b. value b q) (sym (append-nil before))
 value_at before (q ∷ qs) (suc i) d p l =
     let v = value before q in
     let more = before ++ v ∷ [] in
     value_at more qs i d p (omega arith)
-    ∙ ap (λ b. value b (get_or qs i p)) (append_assoc before (v ∷ []) (take i (values_behind more qs)))
+    ∙ ap (λ b. value b (get_or qs i p)) (append_assoc before (v ∷ []) (take i (values_after more qs)))
 
 -- ---- a list that grows
 nothing_between : (a b : ℕ) (vs : List (List ℕ)) → b ≤ a → drop a (take b vs) ≡ []
@@ -41,24 +41,24 @@ nothing_between a b vs l = drop_all a (take b vs) (omega (arith, length-take b v
 
 -- from a place up to one before it there is nothing
 pub held_past : (ps : List Piece) (a b : ℕ) → b ≤ a → held ps a b ≡ []
-held_past ps a b l = ap concat (nothing_between a b (values_behind [] ps) l)
+held_past ps a b l = ap concat (nothing_between a b (values_after [] ps) l)
 
 -- from a place up to itself there is nothing
 pub held_none : (ps : List Piece) (a : ℕ) → held ps a a ≡ []
 held_none ps a = held_past ps a a (omega arith)
 
--- pieces behind the end change nothing
+-- pieces after the end change nothing
 pub held_more : (ps qs : List Piece) (a b : ℕ) → b ≤ length ps → held (ps ++ qs) a b ≡ held ps a b
 held_more ps qs a b l =
-    let vs = values_behind [] ps in
+    let vs = values_after [] ps in
     let known = values_length [] ps in
     ap (λ us. values_between us a b) (values_of_all [] ps qs)
-    ∙ ap (λ us. concat (drop a us)) (take-append-le b vs (values_behind vs qs) (omega (arith, known, l)))
+    ∙ ap (λ us. concat (drop a us)) (take-append-le b vs (values_after vs qs) (omega (arith, known, l)))
 
 held_piece : (ps : List Piece) (p : Piece) (a : ℕ) → a ≤ length ps
-    → held (ps ++ p ∷ []) a (suc (length ps)) ≡ held ps a (length ps) ++ value (values_behind [] ps) p
+    → held (ps ++ p ∷ []) a (suc (length ps)) ≡ held ps a (length ps) ++ value (values_after [] ps) p
 held_piece ps p a l =
-    let vs = values_behind [] ps in
+    let vs = values_after [] ps in
     let v = value vs p in
     let known = values_length [] ps in
     let longer : length (vs ++ v ∷ []) ≤ suc (length ps) = omega (arith, known, length_push vs v) in
@@ -70,21 +70,21 @@ held_piece ps p a l =
     ∙ ap (λ u. concat (drop a vs) ++ u) (append-nil v)
     ∙ ap (λ us. concat (drop a us) ++ v) (sym all)
 
--- a token behind the others
+-- a token after the others
 pub held_token : (ps : List Piece) (k : TokenKind) (a : ℕ) → a ≤ length ps
     → held (ps ++ Token k ∷ []) a (suc (length ps)) ≡ held ps a (length ps) ++ class_of_kind k ∷ []
 held_token ps k a l = held_piece ps (Token k) a l
 
--- a stretch behind the others
+-- a stretch after the others
 pub held_stretch : (ps : List Piece) (b c a : ℕ) → a ≤ length ps → c ≤ length ps
     → held (ps ++ Stretch b c ∷ []) a (suc (length ps)) ≡ held ps a (length ps) ++ held ps b c
 held_stretch ps b c a l m = held_piece ps (Stretch b c) a l
 
 -- ---- a list that is gone through
 held_step : (ps : List Piece) (at to : ℕ) (p : Piece) → at < to → to ≤ length ps → p ≡ get_or ps at p
-    → held ps at to ≡ value (take at (values_behind [] ps)) p ++ held ps (at + 1) to
+    → held ps at to ≡ value (take at (values_after [] ps)) p ++ held ps (at + 1) to
 held_step ps at to p l m e =
-    let vs = values_behind [] ps in
+    let vs = values_after [] ps in
     let known = values_length [] ps in
     let long : length (take to vs) ≡ to = length-take-le to vs (omega (arith, known, m)) in
     let here : get_or (take to vs) at [] ≡ value (take at vs) p = get_or-take to vs at [] l
@@ -96,17 +96,17 @@ held_step ps at to p l m e =
 pub token_first : (ps : List Piece) (at to : ℕ) (p : Piece) (k : TokenKind) → at < to → to ≤ length ps
     → p ≡ get_or ps at p → p ≡ Token k → held ps at to ≡ class_of_kind k ∷ held ps (at + 1) to
 token_first ps at to p k l m e is = held_step ps at to p l m e
-    ∙ ap (λ q. value (take at (values_behind [] ps)) q ++ held ps (at + 1) to) is
+    ∙ ap (λ q. value (take at (values_after [] ps)) q ++ held ps (at + 1) to) is
 
 -- a stretch at the front
 pub stretch_first : (ps : List Piece) (at to : ℕ) (p : Piece) (b c : ℕ) → at < to → to ≤ length ps
     → c ≤ at → p ≡ get_or ps at p → p ≡ Stretch b c → held ps at to ≡ held ps b c ++ held ps (at + 1) to
 stretch_first ps at to p b c l m n e is =
     held_step ps at to p l m e
-    ∙ ap (λ q. value (take at (values_behind [] ps)) q ++ held ps (at + 1) to) is
-    ∙ ap (λ us. concat (drop b us) ++ held ps (at + 1) to) (take-take c at (values_behind [] ps) n)
+    ∙ ap (λ q. value (take at (values_after [] ps)) q ++ held ps (at + 1) to) is
+    ∙ ap (λ us. concat (drop b us) ++ held ps (at + 1) to) (take-take c at (values_after [] ps) n)
 
--- a stretch that stands last
+-- a stretch that is last
 pub stretch_last : (ps : List Piece) (at to : ℕ) (p : Piece) (b c : ℕ) → at + 1 ≡ to
     → to ≤ length ps → c ≤ at → p ≡ get_or ps at p → p ≡ Stretch b c → held ps at to ≡ held ps b c
 stretch_last ps at to p b c s m n e is =
@@ -115,7 +115,7 @@ stretch_last ps at to p b c s m n e is =
     ∙ ap (λ u. held ps b c ++ u) (held_none ps to)
     ∙ append-nil (held ps b c)
 
--- what stood at the front stands behind what came before it
+-- what stood at the front is after what came before it
 pub gone_through : (before now front rest left whole : List ℕ) → now ≡ before ++ front
     → left ≡ front ++ rest → before ++ left ≡ whole → now ++ rest ≡ whole
 gone_through before now front rest left whole e f g = ap (λ u. u ++ rest) e

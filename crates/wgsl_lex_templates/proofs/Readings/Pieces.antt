@@ -1,4 +1,4 @@
--- What pieces stand for, as tokens and stretches are pushed behind them.
+-- What pieces stand for, as tokens and stretches are pushed after them.
 use Rattle.std.proofs.Common.{◌≡◌, ℕ, suc, ◌≤◌, List, [], ◌∷◌, ◌++◌, length, refl, sym, ap, ◌∙◌, take, append-nil, append_assoc, arith}
 use Rattle.std.proofs.lemmas.List.{length-append, length-take, take-append-le, take_all}
 use Rattle.wgsl_lex_token.specs.declared.kind_table.TokenKind.{TokenKind}
@@ -76,6 +76,6 @@ pub cut_back : (first ps : List Piece) → BeginWith first ps → take (length f
 cut_back first ps (more, e) = ap (take (length first)) e
     ∙ (take-append-le (length first) first more (omega arith) ∙ take_all (length first) first (omega arith))
 
--- so many of them
+-- a number of of them
 pub cut_length : (ps : List Piece) (n : ℕ) → n ≤ length ps → length (take n ps) ≡ n
 cut_length ps n l = omega (arith, length-take n ps, l)

@@ -1,4 +1,4 @@
--- What was read behind a `<`, one token or one list further.
+-- What was read after a `<`, one token or one list further.
 use Rattle.std.proofs.Common.{◌≡◌, ◌↔◌, ◌≤◌, ◌+◌, ℕ, suc, arith, Bool, true, false, List, [], ◌∷◌, ◌++◌, drop, length, map, refl, sym, ap, ap₂, subst, ◌∙◌, append_assoc, inl, inr}
 use Rattle.std.proofs.lemmas.List.{map-append, length-append}
 use Rattle.grammar.specs.Tokens.{Token}
@@ -9,7 +9,7 @@ use Rattle.wgsl_model.specs.Tokens.Raw.{token, raw}
 use Rattle.wgsl_model.specs.Tokens.Templates.{is_word, begins_with_greater, NoTemplate, Inside, Template}
 use Rattle.wgsl_lex_token.specs.declared.kind_table.TokenKind.{TokenKind}
 use Rattle.wgsl_lex_token.specs.View.{class_of_kind}
-use Rattle.wgsl_theory_grammar.proofs.Tokens.Cuts.{EndsWith, joined, behind_token}
+use Rattle.wgsl_theory_grammar.proofs.Tokens.Cuts.{EndsWith, joined, after_token}
 use Rattle.wgsl_theory_grammar.proofs.Tokens.Inside.{at}
 use Rattle.wgsl_theory_grammar.proofs.Tokens.Unique.{marked}
 use Rattle.wgsl_lex_templates.specs.ExpressionLists.{classes_of, IsExpressionList}
@@ -45,21 +45,21 @@ longer : (now : List ℕ) (short us : List Token) (cs : List ℕ) → now ≡ cl
 longer now short us cs e f = ap₂ (λ a b. a ++ b) e f ∙ sym (map-append (λ (t : Token). t.class) short us)
 
 -- one token is taken
-pub takes : (total : ℕ) (text now : List ℕ) (word : Bool) (depth behind : ℕ) (rest from after : List ℕ)
+pub takes : (total : ℕ) (text now : List ℕ) (word : Bool) (depth following : ℕ) (rest from after : List ℕ)
     (kind : Kind) → Reaches total text now word depth rest → raw rest ≡ token kind from after
-    → (word ≡ true → kind.class ≡ SymLessThan → HasNoEnd total after) → IsTaken depth kind.class behind
-    → Reaches total text (now ++ kind.class ∷ []) (is_word kind.class) behind after
-takes total text now word depth behind rest from after kind r e n t =
+    → (word ≡ true → kind.class ≡ SymLessThan → HasNoEnd total after) → IsTaken depth kind.class following
+    → Reaches total text (now ++ kind.class ∷ []) (is_word kind.class) following after
+takes total text now word depth following rest from after kind r e n t =
     let one : List Token = at total kind from after ∷ [] in
     record {
       seen = r.seen ++ one;
       short = r.short ++ one;
       read = longer now r.short one (kind.class ∷ []) r.read refl;
       exchanged = both_exchanged r.short r.seen one one r.exchanged (unchanged one);
-      reads = attempt.takes total text r.seen word depth behind rest from after kind r.reads e n t;
+      reads = attempt.takes total text r.seen word depth following rest from after kind r.reads e n t;
     }
 
--- behind a word, a list is taken
+-- after a word, a list is taken
 pub takes_list : (total : ℕ) (text now : List ℕ) (word : Bool) (depth : ℕ) (rest from after end : List ℕ)
     (kind : Kind) → Reaches total text now word depth rest → raw rest ≡ token kind from after
     → word ≡ true → kind.class ≡ SymLessThan → (k : EndsAt total after end)
@@ -127,7 +127,7 @@ forget_word total text now word depth rest r n = record {
   reads = attempt.forget_word total text r.seen word depth rest r.reads n;
 }
 
--- nor at which of two texts with the same first token one stands
+-- nor at which of two texts with the same first token one is
 pub reached_alike : (total : ℕ) (text now : List ℕ) (depth : ℕ) (rest other : List ℕ) → raw rest ≡ raw other
     → Reaches total text now false depth rest → Reaches total text now false depth other
 reached_alike total text now depth rest other e r = record {
@@ -144,16 +144,16 @@ pub moved : (total : ℕ) (text now now' : List ℕ) (word word' : Bool) (depth 
     → Reaches total text now' word' depth rest'
 moved total text now now' word word' depth rest rest' e f g r = rw (e, f, g) r
 
--- one more bracket is open behind a token that is taken, at most
-pub taken_within : (depth c behind : ℕ) → IsTaken depth c behind → behind ≤ suc depth
-taken_within depth c behind (inl t) = omega (arith, t.1)
-taken_within depth c behind (inr (inl t)) = omega (arith, t.1)
-taken_within depth c behind (inr (inr t)) = omega (arith, t.1)
+-- one more bracket is open after a token that is taken, at most
+pub taken_within : (depth c following : ℕ) → IsTaken depth c following → following ≤ suc depth
+taken_within depth c following (inl t) = omega (arith, t.1)
+taken_within depth c following (inr (inl t)) = omega (arith, t.1)
+taken_within depth c following (inr (inr t)) = omega (arith, t.1)
 
--- behind a `<` that begins no list, no list ends
-pub no_end_behind : (total : ℕ) (from after : List ℕ) (kind : Kind) → raw from ≡ token kind from after
+-- after a `<` that begins no list, no list ends
+pub no_end_after : (total : ℕ) (from after : List ℕ) (kind : Kind) → raw from ≡ token kind from after
     → kind.class ≡ SymLessThan → NoTemplate (Template total) from → HasNoEnd total after
-no_end_behind total from after kind e c n end k = n _ _ (front_list total from from after end kind e c k)
+no_end_after total from after kind e c n end k = n _ _ (front_list total from from after end kind e c k)
 
 -- a kind whose class is that of a token ends with a `<` as the token does
 pub sign_of : (c class : ℕ) → c ≡ class → is_among c less_signs ≡ true → is_among class less_signs ≡ true
@@ -177,7 +177,7 @@ goes_on_by total text ps mid now k start b e word depth rest from after place ki
     ∙ held_more ps (OneToken k ∷ []) b e fits in
     let all : held_from now start ≡ (held_from ps start ++ kind.class ∷ []) ++ held ps b e = second
     ∙ ap₂ (λ x y. x ++ y) (first.0 ∙ ap (λ c. held_from ps start ++ c ∷ []) same) stretch in (
-      joined text after place (joined text rest after ends (behind_token rest from after kind front)) cut,
+      joined text after place (joined text rest after ends (after_token rest from after kind front)) cut,
       subst (λ (x : List ℕ). Reaches total text x false depth place) (sym all) (takes_less total text
           (held_from ps start) (held ps b e) word depth rest from after place kind r front less n more),
     )

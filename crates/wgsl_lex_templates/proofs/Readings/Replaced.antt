@@ -54,7 +54,7 @@ replaced_between before cs ds after h =
     (subst (λ (x : List Token). Exchanged (bs ++ (us ++ rest)) x) (sym (parts before ds after))
     (both_exchanged bs bs (us ++ rest) (vs ++ rest) (unchanged bs) (both_exchanged us vs rest rest h (unchanged rest))))
 
--- ---- what stands between parentheses
+-- ---- what is between parentheses
 within : (cs : List ℕ) → map token_of_class (in_parentheses cs)
     ≡ token_of_class SymParenLeft ∷ (map token_of_class cs ++ (token_of_class SymParenRight ∷ []))
 within cs = ap (λ (x : List Token). token_of_class SymParenLeft ∷ x) (map-append token_of_class cs (SymParenRight ∷ []))

@@ -18,7 +18,7 @@ abbrev rests_held : List Piece → List Rest → List ℕ
 rests_held ps [] = []
 rests_held ps (r ∷ rs) = rests_held ps rs ++ held ps r.at r.to
 
--- those from one place up to another, and those of the rests behind them
+-- those from one place up to another, and those of the rests after them
 abbrev pub held_left : List Piece → ℕ → ℕ → List Rest → List ℕ
 held_left ps at to rs = held ps at to ++ rests_held ps rs
 
@@ -40,13 +40,13 @@ pub token_taken : (ps : List Piece) (at to : ℕ) (rs : List Rest) (p : Piece) (
     → held_left ps at to rs ≡ class_of_kind k ∷ held_left ps (at + 1) to rs
 token_taken ps at to rs p k l m e is = ap (λ u. u ++ rests_held ps rs) (token_first ps at to p k l m e is)
 
--- a stretch that stands last
+-- a stretch that is last
 pub last_begun : (ps : List Piece) (at to : ℕ) (rs : List Rest) (p : Piece) (b c : ℕ) → at + 1 ≡ to
     → to ≤ length ps → c ≤ at → p ≡ get_or ps at p → p ≡ Stretch b c
     → held_left ps at to rs ≡ held_left ps b c rs
 last_begun ps at to rs p b c s m n e is = ap (λ u. u ++ rests_held ps rs) (stretch_last ps at to p b c s m n e is)
 
--- a stretch at the front, with the rest behind it
+-- a stretch at the front, with the rest after it
 pub stretch_begun : (ps : List Piece) (at to : ℕ) (rs now : List Rest) (p : Piece) (b c : ℕ)
     → at < to → to ≤ length ps → c ≤ at → p ≡ get_or ps at p → p ≡ Stretch b c
     → now ≡ rs ++ record { at = at + 1; to = to } ∷ [] → held_left ps at to rs ≡ held_left ps b c now
@@ -74,12 +74,12 @@ rests_weight_more : (rs : List Rest) (r : Rest) → rests_weight (rs ++ r ∷ []
 rests_weight_more [] r = omega arith
 rests_weight_more (q ∷ qs) r = let t = rests_weight_more qs r in omega (arith, t)
 
--- a stretch that ends before its own place, and what is behind that place
+-- a stretch that ends before its own place, and what is after that place
 weight_less : (at to b c : ℕ) → at < to → c ≤ at → suc (weight b c + weight (at + 1) to) < weight at to
 weight_less at to b c l m =
     let before : 2 ^ c ≤ 2 ^ at = pow-le-pow_right (omega arith) m in
-    let behind : 2 ^ (at + 1) ≤ 2 ^ to = pow-le-pow_right (omega arith) (omega (arith, l)) in
-    omega (arith, before, behind, pow_more 2 at, pow_pos at, pow_pos b)
+    let following : 2 ^ (at + 1) ≤ 2 ^ to = pow-le-pow_right (omega arith) (omega (arith, l)) in
+    omega (arith, before, following, pow_more 2 at, pow_pos at, pow_pos b)
 
 -- the last rest takes the place of a stretch that is at its end
 pub less_at_rest : (at to : ℕ) (rs now : List Rest) (r : Rest) → rs ≡ now ++ r ∷ []
@@ -87,14 +87,14 @@ pub less_at_rest : (at to : ℕ) (rs now : List Rest) (r : Rest) → rs ≡ now 
 less_at_rest at to rs now r e = let t = ap rests_weight e ∙ rests_weight_more now r in omega (arith, t)
 
 -- a piece more
-pub less_behind : (at to : ℕ) (rs : List Rest) → at < to → left_to_do (at + 1) to rs < left_to_do at to rs
-less_behind at to rs l = let t = weight_less at to 0 0 l (omega arith) in omega (arith, t)
+pub less_after : (at to : ℕ) (rs : List Rest) → at < to → left_to_do (at + 1) to rs < left_to_do at to rs
+less_after at to rs l = let t = weight_less at to 0 0 l (omega arith) in omega (arith, t)
 
--- a stretch that stands last
+-- a stretch that is last
 pub less_at_last : (at to : ℕ) (rs : List Rest) (b c : ℕ) → at < to → c ≤ at → left_to_do b c rs < left_to_do at to rs
 less_at_last at to rs b c l m = let t = weight_less at to b c l m in omega (arith, t)
 
--- a stretch, with the rest behind it
+-- a stretch, with the rest after it
 pub less_at_stretch : (at to : ℕ) (rs now : List Rest) (b c : ℕ) → at < to → c ≤ at
     → now ≡ rs ++ record { at = at + 1; to = to } ∷ [] → left_to_do b c now < left_to_do at to rs
 less_at_stretch at to rs now b c l m more =

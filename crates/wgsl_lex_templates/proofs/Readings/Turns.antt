@@ -16,7 +16,7 @@ abbrev pub IsTurn : ℕ → ℕ → Turn → Type 0
 IsTurn depth class turn.Ends = (depth ≡ 0) × (begins_with_greater class ≡ true)
 IsTurn depth class turn.Stops = (depth ≡ 0) × ((is_closing class ≡ true) ⊎ (is_short_circuit class ≡ true))
 IsTurn depth class turn.Refutes = is_among class in_no_expression ≡ true
-IsTurn depth class (turn.Takes behind) = IsTaken depth class behind
+IsTurn depth class (turn.Takes following) = IsTaken depth class following
 
 -- by the tests on the class
 by_tests : (depth c : ℕ) (o l g s m : Bool) → is_opening c ≡ o → is_closing c ≡ l

@@ -1,4 +1,4 @@
--- Where the ends of a text stand, and the lists at them.
+-- Where the ends of a text are, and the lists at them.
 use Rattle.std.proofs.Common.{◌≡◌, ℕ, ◌-◌, ◌<◌, ◌≤◌, List, [], ◌∷◌, ◌++◌, Option, Some, None, drop, length, chars, Bor, refl, sym, ap, subst, ◌∙◌, append_assoc, arith}
 use Rattle.std.proofs.lemmas.Str.{IsCharBoundary-end}
 use Rattle.std.proofs.lemmas.List.{length-append}
@@ -12,7 +12,7 @@ use Rattle.wgsl_model.specs.Tokens.Raw.{raw, token}
 use Rattle.wgsl_model.specs.Tokens.Places.{place, width}
 use Rattle.wgsl_model.specs.Tokens.Templates.{Template, NoTemplate, Enclosed, enclosed}
 use Rattle.wgsl_span.specs.declared.Span.{Span}
-use Rattle.wgsl_theory_grammar.proofs.Tokens.Cuts.{EndsWith, EndsPast, cut_at, behind_first}
+use Rattle.wgsl_theory_grammar.proofs.Tokens.Cuts.{EndsWith, EndsPast, cut_at, after_first}
 use Rattle.wgsl_theory_grammar.proofs.Tokens.Places.{bytes_width, cut_end, gets_bytes, gets_end}
 use Rattle.wgsl_theory_grammar.proofs.Tokens.Widths.{within, past}
 use Rattle.wgsl_theory_grammar.proofs.Tokens.Bounds.{template_is, template_leaves, inside_leaves}
@@ -23,13 +23,13 @@ use Rattle.wgsl_lex_templates.specs.Lists.{ListEnds, TellLists}
 -- what tells of a text tells of its ends
 pub tell_end : (total : ℕ) (spans : List Span) (text rest : List ℕ) → EndsWith text rest
     → TellLists total spans text → TellLists total spans rest
-tell_end total spans text rest h tell before behind end e = tell (h.0 ++ before) behind end
-    (h.1 ∙ ap (λ x. h.0 ++ x) e ∙ sym (append_assoc h.0 before (60 ∷ behind)))
+tell_end total spans text rest h tell before following end e = tell (h.0 ++ before) following end
+    (h.1 ∙ ap (λ x. h.0 ++ x) e ∙ sym (append_assoc h.0 before (60 ∷ following)))
 
 -- what follows a token is an end of what follows the first character
-pub behind_past : (text from after : List ℕ) (kind : Kind) → raw text ≡ token kind from after
+pub after_past : (text from after : List ℕ) (kind : Kind) → raw text ≡ token kind from after
     → EndsWith (drop 1 text) after
-behind_past text from after kind e = let cut = cut_at text from after kind e in go text cut.0 cut.1 where
+after_past text from after kind e = let cut = cut_at text from after kind e in go text cut.0 cut.1 where
   go : (text : List ℕ) → EndsWith text from → EndsPast from after → EndsWith (drop 1 text) after
   go [] (before, h) (c, more, k) =
       let none : [] ≡ before ++ ((c ∷ more) ++ after) = h ∙ ap (λ x. before ++ x) k in
@@ -41,29 +41,29 @@ behind_past text from after kind e = let cut = cut_at text from after kind e in 
 
 -- ---- what is found of the text itself
 -- the list that was found
-pub found_ends : (total : ℕ) (spans : List Span) (text behind : List ℕ) (start end : ℕ)
-    → TellLists total spans text → text ≡ 60 ∷ behind → start ≡ place total text
+pub found_ends : (total : ℕ) (spans : List Span) (text following : List ℕ) (start end : ℕ)
+    → TellLists total spans text → text ≡ 60 ∷ following → start ≡ place total text
     → Some end ≡ end_from spans start → ListEnds total text end
-found_ends total spans text behind start end tell first s e =
+found_ends total spans text following start end tell first s e =
     subst (λ x. ListEnds total x end) (sym first)
-    ((tell [] behind end first).0 (ap (end_from spans) (ap (place total) (sym first) ∙ sym s) ∙ sym e))
+    ((tell [] following end first).0 (ap (end_from spans) (ap (place total) (sym first) ∙ sym s) ∙ sym e))
 
 -- or none
-pub none_found : (total : ℕ) (spans : List Span) (text behind : List ℕ) (start : ℕ)
-    → TellLists total spans text → text ≡ 60 ∷ behind → start ≡ place total text
+pub none_found : (total : ℕ) (spans : List Span) (text following : List ℕ) (start : ℕ)
+    → TellLists total spans text → text ≡ 60 ∷ following → start ≡ place total text
     → None ≡ end_from spans start → NoTemplate (Template total) text
-none_found total spans text behind start tell first s e ts rest q =
-    let some = (tell [] behind (place total rest) first).1
+none_found total spans text following start tell first s e ts rest q =
+    let some = (tell [] following (place total rest) first).1
     (subst (λ x. ListEnds total x (place total rest)) first (ts, rest, q, refl)) in
     let at : end_from spans start ≡ Some (place total rest) = ap (end_from spans) (s ∙ ap (place total) first) ∙ some in
     let no : Some (place total rest) ≡ None = sym at ∙ sym e in cc
 
--- ---- the text behind a list that was found
--- the list ends behind its start
-pub ends_behind : (total : ℕ) (text : List ℕ) (end : ℕ) → ListEnds total text end → place total text ≤ end
-ends_behind total text end (ts, rest, q, e) = omega (arith, e, within text rest (template_leaves total text ts rest q))
+-- ---- the text after a list that was found
+-- the list ends after its start
+pub ends_after : (total : ℕ) (text : List ℕ) (end : ℕ) → ListEnds total text end → place total text ≤ end
+ends_after total text end (ts, rest, q, e) = omega (arith, e, within text rest (template_leaves total text ts rest q))
 
--- less is left behind a list
+-- less is left after a list
 pub list_narrower : (total : ℕ) (text : List ℕ) (ts : List Token) (rest : List ℕ)
     → Template total text ts rest → width rest < width text
 list_narrower total text ts rest q = go text ts rest ((template_is total text ts rest).0 q) where
@@ -76,7 +76,7 @@ list_narrower total text ts rest q = go text ts rest ((template_is total text ts
         within text from cut.0,
         past from after cut.1,
         within after end (inside_leaves total (Template total) (template_leaves total) 0 after us end i),
-        within end (drop 1 end) (behind_first end),
+        within end (drop 1 end) (after_first end),
       )
 
 skipped_at : (total : ℕ) (bs : List ℕ) (n : ℕ) (before rest : List ℕ) (ts : List Token)

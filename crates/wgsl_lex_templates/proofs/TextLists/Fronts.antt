@@ -5,7 +5,7 @@ use Rattle.std.proofs.lemmas.Slice.Eq.{bytes_eq-Decides}
 use Rattle.grammar.proofs.Reading.Sets.{implied}
 use Rattle.wgsl_lex_scanner.proofs.Cut.{front-whole}
 use Rattle.wgsl_model.specs.Tokens.Templates.{begins_with_greater}
-use Rattle.wgsl_theory_grammar.proofs.Tokens.Bare.{behind_trivia}
+use Rattle.wgsl_theory_grammar.proofs.Tokens.Bare.{bare_after_trivia}
 use Rattle.wgsl_theory_grammar.proofs.Tokens.Classes.{all_pass}
 use Rattle.wgsl_theory_grammar.proofs.Tokens.Cuts.{cut_at}
 use Rattle.wgsl_theory_grammar.proofs.Tokens.Symbols.{each_passes, found_passes, none_passes, other_classes, is_symbol}
@@ -16,7 +16,7 @@ use Rattle.wgsl_model.specs.Tokens.Spelling.{spelling}
 use Rattle.wgsl_model.specs.Tokens.Trivia.{outside, first_or_zero, after_trivia}
 use Rattle.wgsl_model.specs.Tokens.Raw.{Raw, none_left, invalid, token, front, kind_of_spelling, valued, spelled, raw_at, raw}
 
--- ---- a token stands at the front of its text
+-- ---- a token is at the front of its text
 abbrev StandsAt : List ℕ → Raw → Type 0
 StandsAt text none_left = Unit {0}
 StandsAt text (invalid from after) = from ≡ text
@@ -40,7 +40,7 @@ pub raw_again : (text from after : List ℕ) (kind : Kind) → raw text ≡ toke
 raw_again text from after kind e =
     let bare = after_trivia outside text in
     let same : from ≡ bare = subst (StandsAt bare) e (at_stands bare) in
-    ap raw same ∙ ap raw_at (behind_trivia outside text) ∙ e
+    ap raw same ∙ ap raw_at (bare_after_trivia outside text) ∙ e
 
 -- ---- the characters of a token
 -- the words whose class passes are so
@@ -92,7 +92,7 @@ less_front text from after kind e l =
     token_front text from after kind e ∙ ap (λ w. w ++ after) word
 
 pub less_first : (text from after : List ℕ) (kind : Kind) → raw text ≡ token kind from after
-    → kind.class ≡ SymLessThan → (behind : List ℕ) × (from ≡ 60 ∷ behind)
+    → kind.class ≡ SymLessThan → (following : List ℕ) × (from ≡ 60 ∷ following)
 less_first text from after kind e l = (after, less_front text from after kind e l)
 
 -- where it begins the text, the rest of the text is after it
@@ -108,12 +108,12 @@ after_less tail from after kind e l =
     ap (drop 1) (sym (less_is_first tail) ∙ sym here ∙ less_front (60 ∷ tail) from after kind e l)
 
 -- the text of a token that begins with `>` begins with the character
-begun : (word after : List ℕ) → (first_or_zero word == 62) ≡ true → (behind : List ℕ) × (word ++ after ≡ 62 ∷ behind)
+begun : (word after : List ℕ) → (first_or_zero word == 62) ≡ true → (following : List ℕ) × (word ++ after ≡ 62 ∷ following)
 begun [] after h = absurd (cc)
 begun (c ∷ cs) after h = (cs ++ after, ap (λ x. x ∷ (cs ++ after)) (eqb-true c 62 h))
 
 pub greater_first : (text from after : List ℕ) (kind : Kind) → raw text ≡ token kind from after
-    → begins_with_greater kind.class ≡ true → (behind : List ℕ) × (from ≡ 62 ∷ behind)
+    → begins_with_greater kind.class ≡ true → (following : List ℕ) × (from ≡ 62 ∷ following)
 greater_first text from after kind e g =
     let first = begun (front from after) after (front_so begins_with_greater
     (λ w. first_or_zero w == 62) refl refl refl text from after kind e g) in

@@ -25,7 +25,7 @@ use Rattle.wgsl_lex_templates.proofs.TextLists.Listed.{told}
 -- ---- where a list ends
 -- what ends it begins with `>`
 inside_greater : (total : ℕ) (R : TemplateRelation) (depth : ℕ) (text : List ℕ) (ts : List Token) (end : List ℕ)
-    → Inside total R depth text ts end → (behind : List ℕ) × (end ≡ 62 ∷ behind)
+    → Inside total R depth text ts end → (following : List ℕ) × (end ≡ 62 ∷ following)
 inside_greater total R depth text ts end (at_greater t e after kind r g) = greater_first text end after kind r g
 inside_greater total R depth text ts end (at_opening d t from after e kind us r g h) =
     inside_greater total R (suc depth) after us end h
@@ -36,7 +36,7 @@ inside_greater total R depth text ts end (at_template d t from after rest e kind
 inside_greater total R depth text ts end (at_other d t from after e kind us r g n h) =
     inside_greater total R depth after us end h
 
--- the text behind it begins one byte later
+-- the text after it begins one byte later
 pub end_place : (total : ℕ) (text : List ℕ) (ts : List Token) (end : List ℕ) → width text ≤ total
     → Inside total (Template total) 0 text ts end → place total (drop 1 end) ≡ place total end + 1
 end_place total text ts end fits i =
@@ -52,28 +52,28 @@ pub known_end : (total : ℕ) (spans : List Span) (text rest : List ℕ) → End
 known_end total spans text rest h known = ∥∥₁_map known (tell_end total spans text rest h)
 
 -- a list that is told begins the text
-pub known_some : (total : ℕ) (spans : List Span) (text behind : List ℕ) (start end : ℕ)
-    → AreTold total spans text → text ≡ 60 ∷ behind → start ≡ place total text
+pub known_some : (total : ℕ) (spans : List Span) (text following : List ℕ) (start end : ℕ)
+    → AreTold total spans text → text ≡ 60 ∷ following → start ≡ place total text
     → end_from spans start ≡ Some end → ListEnds total text end
-known_some total spans text behind start end known first s e = elim (template_decided total text) [
+known_some total spans text following start end known first s e = elim (template_decided total text) [
   | inl (ts, rest, q) ↦ (
     ts,
     rest,
     q,
     ∥∥₁_elim known (Coded-set coded_ℕ _ _) (λ tell.
-        let h = found_ends total spans text behind start end tell first s (sym e) in
+        let h = found_ends total spans text following start end tell first s (sym e) in
         h.3 ∙ ap (place total) (template_unique total text h.0 ts h.1 rest h.2 q).1),
   )
   | inr none ↦ absurd (∥∥₁_elim known (λ x y. absurd x) (λ tell. let h =
-      found_ends total spans text behind start end tell first s (sym e) in none (h.0, h.1, h.2)))
+      found_ends total spans text following start end tell first s (sym e) in none (h.0, h.1, h.2)))
 ]
 
 -- and where none is, none does
-pub known_none : (total : ℕ) (spans : List Span) (text behind : List ℕ) (start : ℕ)
-    → AreTold total spans text → text ≡ 60 ∷ behind → start ≡ place total text
+pub known_none : (total : ℕ) (spans : List Span) (text following : List ℕ) (start : ℕ)
+    → AreTold total spans text → text ≡ 60 ∷ following → start ≡ place total text
     → end_from spans start ≡ None → NoTemplate (Template total) text
-known_none total spans text behind start known first s e ts rest q = ∥∥₁_elim known (λ x y. absurd x)
-    (λ tell. none_found total spans text behind start tell first s (sym e) ts rest q)
+known_none total spans text following start known first s e ts rest q = ∥∥₁_elim known (λ x y. absurd x)
+    (λ tell. none_found total spans text following start tell first s (sym e) ts rest q)
 
 -- the lists of a source are told
 pub source_known : (bs : List ℕ) (spans : List Span) → IsUtf8 bs

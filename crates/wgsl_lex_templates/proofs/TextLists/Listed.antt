@@ -13,64 +13,64 @@ use Rattle.wgsl_lex_templates.specs.Spans.{end_from, is_before_all}
 use Rattle.wgsl_lex_templates.specs.Lists.{ListEnds, IsListIn, TellLists, AreLists, less_than_signs}
 use Rattle.wgsl_theory_grammar.proofs.Tokens.Places.{same_place}
 
--- no `<` stands in a text
+-- no `<` is in a text
 abbrev pub HasNoLess : List ℕ → Type 0
-HasNoLess text = (before behind : List ℕ) → text ≡ before ++ (60 ∷ behind) → ⊥
+HasNoLess text = (before following : List ℕ) → text ≡ before ++ (60 ∷ following) → ⊥
 
--- in two parts of which the first has none, it stands in the second
-pub in_second : (xs ys before behind : List ℕ) → HasNoLess xs → xs ++ ys ≡ before ++ (60 ∷ behind)
-    → (front : List ℕ) × (ys ≡ front ++ (60 ∷ behind))
-in_second [] ys before behind n e = (before, e)
-in_second (x ∷ xs) ys [] behind n e = let same : x ≡ 60 = cc in absurd (n [] xs (ap (λ c. c ∷ xs) same))
-in_second (x ∷ xs) ys (b ∷ before) behind n e =
-    let tails : xs ++ ys ≡ before ++ (60 ∷ behind) = cc in
-    in_second xs ys before behind (λ f g same. n (x ∷ f) g (ap (λ l. x ∷ l) same)) tails
+-- in two parts of which the first has none, it is in the second
+pub in_second : (xs ys before following : List ℕ) → HasNoLess xs → xs ++ ys ≡ before ++ (60 ∷ following)
+    → (front : List ℕ) × (ys ≡ front ++ (60 ∷ following))
+in_second [] ys before following n e = (before, e)
+in_second (x ∷ xs) ys [] following n e = let same : x ≡ 60 = cc in absurd (n [] xs (ap (λ c. c ∷ xs) same))
+in_second (x ∷ xs) ys (b ∷ before) following n e =
+    let tails : xs ++ ys ≡ before ++ (60 ∷ following) = cc in
+    in_second xs ys before following (λ f g same. n (x ∷ f) g (ap (λ l. x ∷ l) same)) tails
 
 -- lists that are known of the end of a text are told of it
 pub told : (total : ℕ) (spans : List Span) (done : List ℕ) → width done ≤ total
     → AreLists total spans done → TellLists total spans done
-told total spans done fits are before behind end e = (
+told total spans done fits are before following end e = (
   (λ some.
-      let h = (are (place total (60 ∷ behind)) end).0 some in
-      let same = same_place total done before h.0 (60 ∷ behind) (60 ∷ h.1) fits e h.2 h.3 in
+      let h = (are (place total (60 ∷ following)) end).0 some in
+      let same = same_place total done before h.0 (60 ∷ following) (60 ∷ h.1) fits e h.2 h.3 in
       subst (λ x. ListEnds total x end) (sym same) h.4),
-  (λ ends. (are (place total (60 ∷ behind)) end).1 (before, behind, e, refl, ends)),
+  (λ ends. (are (place total (60 ∷ following)) end).1 (before, following, e, refl, ends)),
 )
 
 -- and so with more before them that has no `<`
 pub told_more : (total : ℕ) (spans : List Span) (back done : List ℕ) → HasNoLess back
     → TellLists total spans done → TellLists total spans (back ++ done)
-told_more total spans back done n tell before behind end e =
-    let s = in_second back done before behind n e in tell s.0 behind end s.1
+told_more total spans back done n tell before following end e =
+    let s = in_second back done before following n e in tell s.0 following end s.1
 
 -- ---- the lists of a text from its last `<` on, which is tried
--- a list in it is at that `<` or behind it
+-- a list in it is at that `<` or after it
 cut_list : (total : ℕ) (back done : List ℕ) (start end : ℕ) → HasNoLess back
     → IsListIn total (60 ∷ (back ++ done)) start end
     → ((start ≡ place total (60 ∷ (back ++ done))) × ListEnds total (60 ∷ (back ++ done)) end)
     ⊎ IsListIn total done start end
-cut_list total back done start end n ([], behind, e, s, l) =
-    let same : back ++ done ≡ behind = cc in
+cut_list total back done start end n ([], following, e, s, l) =
+    let same : back ++ done ≡ following = cc in
     inl (subst (λ x. start ≡ place total (60 ∷ x)) (sym same) s, subst (λ x. ListEnds total (60 ∷ x) end) (sym same) l)
-cut_list total back done start end n (b ∷ before, behind, e, s, l) =
-    let tails : back ++ done ≡ before ++ (60 ∷ behind) = cc in
-    let h = in_second back done before behind n tails in inr (h.0, behind, h.1, s, l)
+cut_list total back done start end n (b ∷ before, following, e, s, l) =
+    let tails : back ++ done ≡ before ++ (60 ∷ following) = cc in
+    let h = in_second back done before following n tails in inr (h.0, following, h.1, s, l)
 
--- and a list behind it is a list of the whole
+-- and a list after it is a list of the whole
 longer_list : (total : ℕ) (front done : List ℕ) (start end : ℕ) → IsListIn total done start end
     → IsListIn total (front ++ done) start end
-longer_list total front done start end (before, behind, e, s, l) =
-    (front ++ before, behind, ap (λ x. front ++ x) e ∙ sym (append_assoc front before (60 ∷ behind)), s, l)
+longer_list total front done start end (before, following, e, s, l) =
+    (front ++ before, following, ap (λ x. front ++ x) e ∙ sym (append_assoc front before (60 ∷ following)), s, l)
 
--- it starts behind that `<`
-starts_behind : (total : ℕ) (back done : List ℕ) (start end : ℕ) → width (60 ∷ (back ++ done)) ≤ total
+-- it starts after that `<`
+starts_after : (total : ℕ) (back done : List ℕ) (start end : ℕ) → width (60 ∷ (back ++ done)) ≤ total
     → IsListIn total done start end → place total (60 ∷ (back ++ done)) < start
-starts_behind total back done start end fits (before, behind, e, s, l) =
-    let whole : 60 ∷ (back ++ done) ≡ (60 ∷ (back ++ before)) ++ (60 ∷ behind) =
-    ap (λ x. 60 ∷ (back ++ x)) e ∙ ap (λ x. 60 ∷ x) (sym (append_assoc back before (60 ∷ behind))) in
-    omega (arith, s, fits, past (60 ∷ (back ++ done)) (60 ∷ behind) (60, back ++ before, whole))
+starts_after total back done start end fits (before, following, e, s, l) =
+    let whole : 60 ∷ (back ++ done) ≡ (60 ∷ (back ++ before)) ++ (60 ∷ following) =
+    ap (λ x. 60 ∷ (back ++ x)) e ∙ ap (λ x. 60 ∷ x) (sym (append_assoc back before (60 ∷ following))) in
+    omega (arith, s, fits, past (60 ∷ (back ++ done)) (60 ∷ following) (60, back ++ before, whole))
 
--- so that `<` stands before the starts of all
+-- so that `<` is before the starts of all
 before_all_by : (start : ℕ) (spans : List Span)
     → ((k end : ℕ) → end_from spans k ≡ Some end → start < k) → is_before_all start spans ≡ true
 before_all_by start [] h = refl
@@ -88,7 +88,7 @@ before_all_by start (span ∷ spans) h =
 pub before_all : (total : ℕ) (spans : List Span) (back done : List ℕ) → width (60 ∷ (back ++ done)) ≤ total
     → AreLists total spans done → is_before_all (place total (60 ∷ (back ++ done))) spans ≡ true
 before_all total spans back done fits are = before_all_by _ spans
-    (λ k end e. starts_behind total back done k end fits ((are k end).0 e))
+    (λ k end e. starts_after total back done k end fits ((are k end).0 e))
 
 -- ---- one span more
 added_other : (spans : List Span) (span : Span) (k : ℕ) → (span.start ≡ k → ⊥)
@@ -149,7 +149,7 @@ one_more total spans back done at n fits one are start end =
               ([], back ++ done, refl, sym same, (one end).0 ends)),
           (λ l. elim (cut_list total back done start end n l) [
             | inl h ↦ here ∙ ap Some ((one end).1 h.1)
-            | inr later ↦ let less = starts_behind total back done start end fits later in
+            | inr later ↦ let less = starts_after total back done start end fits later in
                 absurd (omega (arith, less, same))
           ]),
         )
@@ -167,7 +167,7 @@ one_more total spans back done at n fits one are start end =
 pub no_lists : (total : ℕ) (spans : List Span) → spans ≡ [] → AreLists total spans []
 no_lists total spans none start end = (
   (λ e. let no : None ≡ Some end = sym (ap (λ s. end_from s start) none) ∙ e in absurd cc),
-  (λ (before, behind, e, s, l). absurd (omega (arith, ap length e, length-append before (60 ∷ behind)))),
+  (λ (before, following, e, s, l). absurd (omega (arith, ap length e, length-append before (60 ∷ following)))),
 )
 
 -- a front without a `<` has no list
@@ -175,8 +175,8 @@ pub all_lists : (total : ℕ) (spans : List Span) (left done : List ℕ) → Has
     → AreLists total spans done → AreLists total spans (left ++ done)
 all_lists total spans left done n are start end = (
   (λ e. longer_list total left done start end ((are start end).0 e)),
-  (λ (before, behind, e, s, l). let h = in_second left done before behind n e in (are start end).1
-      (h.0, behind, h.1, s, l)),
+  (λ (before, following, e, s, l). let h = in_second left done before following n e in (are start end).1
+      (h.0, following, h.1, s, l)),
 )
 
 -- one `<` more
@@ -188,10 +188,10 @@ one_sign_more back done =
     omega (arith, all, first)
 
 -- ---- what is left, and what is done
--- the lists behind what is left of a source are known, with at most as many attempts as there are
+-- the lists after what is left of a source are known, with at most as many attempts as there are
 -- `<`
 pub record Done (total : ℕ) (source left : List ℕ) (spans : List Span) (attempts : ℕ) : Type 0 where
-  pub behind : List ℕ
-  pub parts : source ≡ left ++ behind
-  pub lists : AreLists total spans behind
-  pub few : attempts ≤ less_than_signs behind
+  pub following : List ℕ
+  pub parts : source ≡ left ++ following
+  pub lists : AreLists total spans following
+  pub few : attempts ≤ less_than_signs following

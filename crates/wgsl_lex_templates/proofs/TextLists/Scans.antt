@@ -8,11 +8,11 @@ use Rattle.wgsl_lex_scanner.specs.declared.lexeme.Lexeme.{Lexeme}
 use Rattle.wgsl_lex_scanner.specs.declared.scan.Scanned.{Scanned}
 use Rattle.wgsl_lex_scanner.specs.declared.scan.Scanned.TheVariants as scanned
 use Rattle.wgsl_lex_scanner.specs.View.{lexeme_view, scanned_view, IsShorter}
-use Rattle.wgsl_theory_grammar.proofs.Tokens.Cuts.{EndsWith, cut_at, behind_token}
+use Rattle.wgsl_theory_grammar.proofs.Tokens.Cuts.{EndsWith, cut_at, after_token}
 use Rattle.wgsl_lex_templates.proofs.TextLists.Fronts.{raw_again}
 
--- a token of a kind is the first of a text; it begins one end of the text, and another stands
--- behind it
+-- a token of a kind is the first of a text; it begins one end of the text, and another is
+-- after it
 pub record Taken (text from after : List ℕ) (kind : Kind) : Type 0 where
   pub front : raw (chars text) ≡ token kind (chars from) (chars after)
   pub again : raw (chars from) ≡ token kind (chars from) (chars after)
@@ -29,7 +29,7 @@ taken text s lexeme from after is view shorter =
       front = front;
       again = raw_again (chars text) (chars from.now) (chars after.now) (lexeme_view lexeme) front;
       starts = (cut_at (chars text) (chars from.now) (chars after.now) (lexeme_view lexeme) front).0;
-      leaves = behind_token (chars text) (chars from.now) (chars after.now) (lexeme_view lexeme) front;
+      leaves = after_token (chars text) (chars from.now) (chars after.now) (lexeme_view lexeme) front;
       shorter = subst (IsShorter (length text)) is shorter;
     }
 
@@ -40,7 +40,7 @@ no_token scanned.NoneLeft n kind from after e = cc
 no_token (scanned.Invalid f a) n kind from after e = cc
 no_token (scanned.Found lexeme f a) n kind from after e = n lexeme f a refl
 
--- a text of no bytes has no characters, also behind its first
+-- a text of no bytes has no characters, also after its first
 pub no_text : (text : List ℕ) → length text ≡ 0 → chars text ≡ drop 1 (chars text)
 no_text [] e = rw chars-nil refl
 no_text (b ∷ bs) e = absurd (omega (arith, e))

@@ -1,4 +1,4 @@
--- What a search finds among spans that stand from right to left.
+-- What a search finds among spans that are from right to left.
 use Rattle.std.proofs.Common.{◌≡◌, ℕ, zero, suc, ◌<◌, ◌≤◌, true, cond, List, [], ◌∷◌, ◌++◌, Some, None, Result, Ok, Err, length, get_or, refl, sym, subst, ◌∙◌, eqb, eqb-true, inl, inr, arith}
 use Rattle.std.specs.List.Sorted.{IsSearchInRange, IsBinarySearchResult, IsNonDecreasingBy}
 use Rattle.std.specs.Ordering.{nat_cmp, ordering_index}
@@ -100,6 +100,6 @@ searched spans k (Err at) e l h =
     end_nowhere spans k no_span (λ i m same. elim (cases_lt i at) [
       | inl less ↦ let before : k < (get_or spans i no_span).start = ranked k _ _
           (sym (parted.0 i no_span (omega arith) less)) in omega (arith, before, same)
-      | inr more ↦ let behind : (get_or spans i no_span).start < k = ranked k _ _
-          (sym (parted.1 i no_span more m)) in omega (arith, behind, same)
+      | inr more ↦ let following : (get_or spans i no_span).start < k = ranked k _ _
+          (sym (parted.1 i no_span more m)) in omega (arith, following, same)
     ])

@@ -30,13 +30,13 @@ use Rattle.wgsl_lex_templates.proofs.TextLists.Listed.{HasNoLess, Done, told, to
 
 -- ---- no `<`
 none_pass : (cs : List ℕ) → NonePass (λ d. d == 60) cs → HasNoLess cs
-none_pass [] n [] behind e = absurd cc
-none_pass [] n (b ∷ before) behind e = absurd cc
-none_pass (c ∷ cs) n [] behind e = let same : c ≡ 60 = cc in absurd (no_sign c n.0 same) where
+none_pass [] n [] following e = absurd cc
+none_pass [] n (b ∷ before) following e = absurd cc
+none_pass (c ∷ cs) n [] following e = let same : c ≡ 60 = cc in absurd (no_sign c n.0 same) where
   no_sign : (c : ℕ) → (c == 60) ≡ false → c ≡ 60 → ⊥
   no_sign c f e = let g : (60 == 60) ≡ false = subst (λ x. (x == 60) ≡ false) e f in absurd cc
-none_pass (c ∷ cs) n (b ∷ before) behind e =
-    let tails : cs ≡ before ++ (60 ∷ behind) = cc in none_pass cs n.1 before behind tails
+none_pass (c ∷ cs) n (b ∷ before) following e =
+    let tails : cs ≡ before ++ (60 ∷ following) = cc in none_pass cs n.1 before following tails
 
 pub no_less : (bs : List ℕ) → IsUtf8 bs → NoCharPasses (λ d. d == 60) bs → HasNoLess (chars bs)
 no_less bs u (cs, e, n) = subst HasNoLess (chars_from_encodes cs bs u e) (none_pass cs n)
@@ -50,7 +50,7 @@ pub record Split (left before : List ℕ) : Type 0 where
 
 pub split_last : (left before back : List ℕ) → IsUtf8 left
     → SplitsAroundMatch (RFindsChar 60) left before back → Split left before
-split_last left before back u (i, j, (none, at), front, behind, l, size, more) =
+split_last left before back u (i, j, (none, at), front, following, l, size, more) =
     let less : i < length left = omega (arith, at.ends, more) in
     let boundary = IsCharBoundary-before_ascii left i less (omega (arith, at.byte (omega arith))) in
     let rest = IsUtf8-drop left i u boundary in
@@ -82,13 +82,13 @@ pub cut : (source left before back : List ℕ) (spans : List Span) (attempts : �
     → SplitsAroundMatch (RFindsChar 60) left before back → Cut source before spans attempts
 cut source left before back spans attempts u v d s =
     let m = split_last left before back v s in
-    let parts : chars source ≡ chars before ++ (60 ∷ (m.back ++ d.behind)) = d.parts
-    ∙ ap (λ x. x ++ d.behind) m.parts ∙ append_assoc (chars before) (60 ∷ m.back) d.behind in
-    let ends = cut_end source (chars before) (60 ∷ (m.back ++ d.behind)) u parts in
+    let parts : chars source ≡ chars before ++ (60 ∷ (m.back ++ d.following)) = d.parts
+    ∙ ap (λ x. x ++ d.following) m.parts ∙ append_assoc (chars before) (60 ∷ m.back) d.following in
+    let ends = cut_end source (chars before) (60 ∷ (m.back ++ d.following)) u parts in
     let size = bytes_width before m.text in
     record {
       back = m.back;
-      done = d.behind;
+      done = d.following;
       clear = m.clear;
       parts = parts;
       lists = d.lists;
@@ -99,11 +99,11 @@ cut source left before back spans attempts u v d s =
       at = omega (arith, ends.3, size);
     }
 
--- what is known of the lists behind that `<`
-pub told_behind : (source before text : List ℕ) (spans : List Span) (attempts : ℕ)
+-- what is known of the lists after that `<`
+pub told_after : (source before text : List ℕ) (spans : List Span) (attempts : ℕ)
     → Cut source before spans attempts → text ≡ drop (length before) source
     → TellLists (length source) spans (drop 1 (chars text))
-told_behind source before text spans attempts k e =
+told_after source before text spans attempts k e =
     let narrow : width k.done ≤ length source =
     omega (arith, k.fits, within (60 ∷ (k.back ++ k.done)) k.done (60 ∷ k.back, refl)) in
     subst (λ x. TellLists (length source) spans (drop 1 x)) (sym (ap chars e ∙ k.text))
@@ -122,7 +122,7 @@ attempts_fit source before spans attempts k =
       length-le-encodes (60 ∷ (k.back ++ k.done)),
     )
 
--- and so many reads fit
+-- and a number of reads fit
 pub reads_fit : (reads attempts n text : ℕ) → n < 2 ^ 64 → attempts + 1 ≤ n
     → reads ≤ attempts * (n + 1) → text ≤ n → reads + text + 1 < 2 ^ 128
 reads_fit reads attempts n text small few some less =
@@ -146,7 +146,7 @@ pub tried_none : (source before text : List ℕ) (spans : List Span) (attempts :
     → NoTemplate (Template (length source)) (chars text)
     → Done (length source) (chars source) (chars before) spans (attempts + 1)
 tried_none source before text spans attempts k e none = record {
-  behind = 60 ∷ (k.back ++ k.done);
+  following = 60 ∷ (k.back ++ k.done);
   parts = k.parts;
   lists = none_more (length source) spans k.back k.done k.clear
       (λ end ends. let list = subst (λ x. ListEnds (length source) x end)
@@ -168,14 +168,14 @@ tried_one source before text spans now attempts start at k e one s more =
       (λ ends. one_end (length source) (60 ∷ (k.back ++ k.done)) at end list ends),
     )) k.lists in
     record {
-      behind = 60 ∷ (k.back ++ k.done);
+      following = 60 ∷ (k.back ++ k.done);
       parts = k.parts;
       lists = subst (λ x. AreLists (length source) x (60 ∷ (k.back ++ k.done)))
           (sym (more ∙ ap (λ x. spans ++ record { start = x; end = at } ∷ []) first)) all;
       few = omega (arith, k.few, one_sign_more k.back k.done);
     }
 
--- what a list begins with, and where the text behind it does
+-- what a list begins with, and where the text after it does
 list_place : (total : ℕ) (text from after end : List ℕ) (kind : Kind) (at : ℕ) → width after ≤ total
     → raw text ≡ token kind from after → kind.class ≡ SymLessThan → EndsAt total after end
     → at ≡ place total end → ListEnds total text (at + 1)
@@ -208,7 +208,7 @@ tried_found source before text spans now attempts start pieces from after kind
     tried_one source before text spans now attempts start (at + 1) k e
     (list_place (length source) (chars text) from after end kind at fits r less list p) s more
 
--- its `>` stands in the source
+-- its `>` is in the source
 pub greater_fits : (total : ℕ) (pieces : List Piece) (after : List ℕ) (f : Finding)
     → width after ≤ total → IsFinding total pieces after f → 0 < total → greater_place f + 1 ≤ total
 greater_fits total pieces after Around fits h some = omega (arith, some)
@@ -223,11 +223,11 @@ listed_costs start Around = (refl, omega arith)
 listed_costs start (GoesOn false at b c) = (refl, omega arith)
 listed_costs start (GoesOn true at b c) = (refl, omega arith)
 
--- behind what has no `<`, all lists are known
+-- after what has no `<`, all lists are known
 pub all_done : (source left : List ℕ) (spans : List Span) (attempts : ℕ) → IsUtf8 source → IsUtf8 left
     → NoCharPasses (λ d. d == 60) left → Done (length source) (chars source) (chars left) spans attempts
     → AreLists (width (chars source)) spans (chars source)
 all_done source left spans attempts u v n d =
     subst (λ t. AreLists t spans (chars source)) (sym (bytes_width source u))
     (subst (AreLists (length source) spans) (sym d.parts)
-    (all_lists (length source) spans (chars left) d.behind (no_less left v n) d.lists))
+    (all_lists (length source) spans (chars left) d.following (no_less left v n) d.lists))

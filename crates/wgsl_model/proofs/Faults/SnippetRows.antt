@@ -43,18 +43,18 @@ pub at_a_line_end : row (codes "ab\ncd") 2 4 ≡ text (codes "error: invalid tok
 unfolding digits encode
 at_a_line_end = refl
 
-pub behind_the_last_line_end : row (codes "ab\n") 3 4 ≡ text (codes "error: invalid token\n --> line 2, column 1\n\n^")
+pub after_the_last_line_end : row (codes "ab\n") 3 4 ≡ text (codes "error: invalid token\n --> line 2, column 1\n\n^")
 unfolding digits encode
-behind_the_last_line_end = refl
+after_the_last_line_end = refl
 
 pub before_a_carriage_return : row (codes "a\r\nb") 1 4
     ≡ text (codes "error: invalid token\n --> line 1, column 2\na\r\n ^")
 unfolding digits encode
 before_a_carriage_return = refl
 
-pub behind_a_tab : row (codes "\tx") 1 2 ≡ text (codes "error: invalid token\n --> line 1, column 2\n\tx\n ^")
+pub after_a_tab : row (codes "\tx") 1 2 ≡ text (codes "error: invalid token\n --> line 1, column 2\n\tx\n ^")
 unfolding digits encode
-behind_a_tab = refl
+after_a_tab = refl
 
 pub wide_characters : row (codes "€é𝄞 #") 3 9 ≡ text (codes "error: invalid token\n --> line 1, column 2\n€é𝄞 #\n ^^")
 unfolding digits encode

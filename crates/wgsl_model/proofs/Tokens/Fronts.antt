@@ -1,4 +1,4 @@
--- Fronts of texts: what stands before a rest, and the longest front that passes.
+-- Fronts of texts: what is before a rest, and the longest front that passes.
 use Rattle.std.proofs.Common.{◌≡◌, ℕ, ◌≤◌, Bool, true, false, cond, List, [], ◌∷◌, ◌++◌, length, length-append, ◌-◌, take, Option, Some, None, refl, sym, ◌∙◌, ap, arith}
 use Rattle.std.proofs.lemmas.Bool.{true≢false}
 use Rattle.std.proofs.Math.Seq.{take-append_seam}
@@ -8,7 +8,7 @@ use Rattle.wgsl_model.specs.Tokens.Raw.{front}
 pub take-append_front : (xs ys : List ℕ) (n : ℕ) → n ≡ length xs → take n (xs ++ ys) ≡ xs
 take-append_front xs ys n e = ap (λ m. take m (xs ++ ys)) e ∙ take-append_seam xs ys
 
--- what stands before a rest
+-- what is before a rest
 pub front-append : (xs ys : List ℕ) → front (xs ++ ys) ys ≡ xs
 front-append xs ys = take-append_front xs ys (length (xs ++ ys) - length ys) (omega (arith, length-append xs ys))
 

@@ -38,8 +38,8 @@ refuses_late_self = refl
 pub refuses_late_package : read_path (codes "self::package::super") ≡ Err misplaced_package
 refuses_late_package = refl
 
-pub refuses_super_behind_self : read_path (codes "self::super") ≡ Err misplaced_super
-refuses_super_behind_self = refl
+pub refuses_super_after_self : read_path (codes "self::super") ≡ Err misplaced_super
+refuses_super_after_self = refl
 
 pub refuses_nothing : read_path [] ≡ Err empty
 refuses_nothing = refl

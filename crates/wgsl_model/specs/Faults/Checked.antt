@@ -18,7 +18,7 @@ use Rattle.wgsl_model.specs.Grammar.Written.{written}
 abbrev pub IsApart : List Token → Type 0
 IsApart before = is_among (last_class 0 before) (SymAttr ∷ []) ≡ false
 
--- a list of tokens ended because memory was refused
+-- a list of tokens ended because an allocation failed
 abbrev pub wants_memory : Ending → Bool
 wants_memory finished = false
 wants_memory (carried x) = x.kind == out_of_memory_kind
@@ -29,7 +29,7 @@ abbrev pub IsUnopened : List Token → Ending → Type 0
 IsUnopened [] ending = wants_memory ending ≡ false
 IsUnopened (t ∷ ts) ending = (t.class == SymParenLeft) ≡ false
 
--- a reserved word that does not stand directly after `@`
+-- a reserved word that is not directly after `@`
 abbrev pub IsReservedFault : List Token → Fault → List Token → Type 0
 IsReservedFault ts x ys = (before : List Token) × (t : Token) × (ts ≡ before ++ (t ∷ ys)) × IsApart before
     × (t.class ≡ ReservedWord) × (x ≡ reserved_word (text_of t) (span_of_token t))
@@ -62,7 +62,7 @@ IsVarTemplateFault ts x ys = (before slice : List Token) × (es : List Expressio
     × Derives unchecked written var_template (Some es) slice
     × (var_fault (Some es) (span_of slice) ≡ Some x)
 
--- a checked fault x of a list that ended so, with ys behind its last token
+-- a checked fault x of a list that ended so, with ys after its last token
 pub data IsCheckedFault (ts : List Token) (ending : Ending) (x : Fault) (ys : List Token) : Type 0 where
   reserved_fault : IsReservedFault ts x ys → IsCheckedFault ts ending x ys
   severity_fault_at : IsSeverityFault ts x ys → IsCheckedFault ts ending x ys

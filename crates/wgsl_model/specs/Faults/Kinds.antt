@@ -7,11 +7,11 @@ use Rattle.wgsl_model.specs.Tokens.Texts.{token_text}
 abbrev pub last_place : ℕ
 last_place = 2 ^ 64 - 1
 
--- the place behind a place; sums on places stop at the greatest
+-- the place after a place; sums on places stop at the greatest
 abbrev pub next_place : ℕ → ℕ
 next_place p = if nat_lt p last_place then p + 1 else p
 
--- where a token stands
+-- where a token is
 abbrev pub span_of_token : Token → Span
 span_of_token t = record { start = t.start; end = t.end }
 
@@ -44,7 +44,7 @@ attribute_kind = 7
 abbrev pub var_template_kind : ℕ
 var_template_kind = 8
 
--- memory was refused
+-- an allocation failed
 abbrev pub out_of_memory_kind : ℕ
 out_of_memory_kind = 9
 
@@ -56,7 +56,7 @@ invalid_token span = record { kind = invalid_token_kind; texts = []; span = span
 abbrev pub reserved_word : List ℕ → Span → Fault
 reserved_word word span = record { kind = reserved_word_kind; texts = word ∷ []; span = span }
 
--- a token that cannot stand where it stands
+-- a token that cannot be where it is
 abbrev pub unexpected_token : Token → Fault
 unexpected_token t = record { kind = unexpected_token_kind; texts = token_text t ∷ []; span = span_of_token t }
 

@@ -8,7 +8,7 @@ use Rattle.wgsl_model.specs.Grammar.Symbols.{Dialect, Dialect.parsed, Dialect.re
 use Rattle.wgsl_model.specs.Grammar.Written.{rules, written}
 use Rattle.wgsl_model.specs.Faults.Checked.{IsCheckedFault}
 
--- no checked fault has so many tokens behind it, or more
+-- no checked fault has a number of tokens after it, or more
 abbrev pub NoFaultBefore : List Token → Ending → ℕ → Type 0
 NoFaultBefore ts ending k = (x : Fault) (ys : List Token) → IsCheckedFault ts ending x ys → k ≤ length ys → ⊥
 

@@ -18,15 +18,15 @@ characters_before place (c ∷ cs) = if nat_le (len_utf8 c) place
 abbrev pub is_line_feed : ℕ → Bool
 is_line_feed c = c == 10
 
--- what stands before a span
+-- what is before a span
 abbrev pub text_before : List ℕ → Span → List ℕ
 text_before source span = characters_before span.start source
 
--- what stands in a span, which is nothing where the span ends before its start
+-- what is in a span, which is nothing where the span ends before its start
 abbrev pub text_within : List ℕ → Span → List ℕ
 text_within source span = drop (length (text_before source span)) (characters_before span.end source)
 
--- what stands from the start of a span on
+-- what is from the start of a span on
 abbrev pub text_from : List ℕ → Span → List ℕ
 text_from source span = drop (length (text_before source span)) source
 
@@ -34,7 +34,7 @@ text_from source span = drop (length (text_before source span)) source
 abbrev pub line_number : List ℕ → Span → ℕ
 line_number source span = 1 + count_by is_line_feed (text_before source span)
 
--- what stands before the span in that line
+-- what is before the span in that line
 abbrev pub line_front : List ℕ → Span → List ℕ
 line_front source span = after_last is_line_feed (text_before source span)
 
@@ -42,7 +42,7 @@ line_front source span = after_last is_line_feed (text_before source span)
 abbrev pub line_text : List ℕ → Span → List ℕ
 line_text source span = line_front source span ++ before_first is_line_feed (text_from source span)
 
--- how many characters of the span stand in that line, its LF aside
+-- how many characters of the span are in that line, its LF aside
 abbrev pub mark_count : List ℕ → Span → ℕ
 mark_count source span = length (before_first is_line_feed (text_within source span))
 

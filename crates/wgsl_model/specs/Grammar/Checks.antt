@@ -93,7 +93,7 @@ abbrev pub variants : ExpressionNode → Option (List TypeExpression)
 variants (expression_node e s) = variants_in e
 
 -- ---- `var` templates
--- an access mode behind an address space, which only storage can have
+-- an access mode after an address space, which only storage can have
 abbrev pub space_and_mode : Option AddressSpace → ExpressionNode → Checked (AddressSpace × Option AccessMode)
 space_and_mode None e = wrong (codes "invalid address space")
 space_and_mode (Some storage) e = right_or (untemplated_word access_modes e)
@@ -199,7 +199,7 @@ pub record AttributeParts : Type 0 where
   pub name : List ℕ
   pub arguments : Arguments
 
--- the parts of an attribute and where it stands
+-- the parts of an attribute and where it is
 abbrev pub attribute_parts : Token × Arguments → Span → Spanned AttributeParts
 attribute_parts (name, arguments) span =
     record { node = record { name = text_of name; arguments = arguments }; span = span }

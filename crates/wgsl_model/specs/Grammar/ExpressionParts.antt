@@ -10,7 +10,7 @@ use Rattle.wgsl_model.specs.Trees.Expressions.{ExpressionNode, ExpressionNode.ex
 use Rattle.wgsl_model.specs.Grammar.TokenValues.{text_of}
 use Rattle.wgsl_model.specs.Grammar.Symbols.{Dialect, Dialect.parsed, Dialect.recognized, Symbol.multiplicative_expression, Symbol.negated_expression, Rule}
 
--- an expression and where it stands
+-- an expression and where it is
 abbrev pub placed_expression : Expression → Span → ExpressionNode
 placed_expression e span = expression_node e span
 
@@ -26,15 +26,15 @@ call_of (callee, arguments) = call callee (expressions_of arguments)
 abbrev pub variable : List ℕ → Expression
 variable name = type_or_identifier (type_expression name no_template)
 
--- `[` and an index behind a base
+-- `[` and an index after a base
 abbrev pub index_of : ExpressionNode → ExpressionNode → Expression
 index_of index base = indexing base index
 
--- `.` and a name behind a base
+-- `.` and a name after a base
 abbrev pub component_of : Token → ExpressionNode → Expression
 component_of t base = named_component base (text_of t)
 
--- a component behind a base
+-- a component after a base
 abbrev pub with_component : ExpressionNode → (ExpressionNode → Expression) → Span → ExpressionNode
 with_component base component span = expression_node (component base) span
 
@@ -42,7 +42,7 @@ with_component base component span = expression_node (component base) span
 abbrev pub unary_of : UnaryOperator × ExpressionNode → Span → ExpressionNode
 unary_of (operator, operand) span = expression_node (unary operator operand) span
 
--- an operator and an operand behind an operand
+-- an operator and an operand after an operand
 abbrev pub binary_of : ExpressionNode → BinaryOperator × ExpressionNode → Span → ExpressionNode
 binary_of left (operator, right) span = expression_node (binary operator left right) span
 

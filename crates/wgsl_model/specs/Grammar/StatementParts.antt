@@ -15,7 +15,7 @@ use Rattle.wgsl_model.specs.Grammar.TokenValues.{text_of}
 use Rattle.wgsl_model.specs.Grammar.ExpressionParts.{variable, unary_of, with_component}
 use Rattle.wgsl_model.specs.Grammar.Symbols.{Dialect, Dialect.parsed, Dialect.recognized, Rule, Symbol.ident, Symbol.component, Symbol.expression, Symbol.lhs_expression, Symbol.attribute, Symbol.statement, Symbol.compound_statement, Symbol.var_template}
 
--- a statement and where it stands
+-- a statement and where it is
 abbrev pub placed_statement : Statement → Span → StatementNode
 placed_statement s span = tree.statement_node s span
 
@@ -23,7 +23,7 @@ placed_statement s span = tree.statement_node s span
 abbrev pub attributes : Rule Attributes
 attributes = many (symbol attribute gives attribute_node)
 
--- A* where the draft has attributes too, and what stands behind
+-- A* where the draft has attributes too, and what is after
 abbrev pub attributed : {A B : Type 0} → (Attributes → A → B) → Rule A → Rule B
 attributed make g = attributes then g gives λ (a, x). make a x
 
@@ -32,7 +32,7 @@ abbrev pub leading : Dialect → Rule Attributes
 leading parsed = attributes
 leading recognized = empty []
 
--- leading attributes, and what stands behind
+-- leading attributes, and what is after
 abbrev pub led : {A B : Type 0} → Dialect → (Attributes → A → B) → Rule A → Rule B
 led L make g = leading L then g gives λ (a, x). make a x
 

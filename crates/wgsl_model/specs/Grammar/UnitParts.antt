@@ -34,7 +34,7 @@ parameter_of (attributes, (name, ty)) = record { attributes = attributes; ident 
 abbrev pub value_of : DeclarationKind → List ℕ × Option TypeExpression → Option ExpressionNode → UnattributedDeclaration
 value_of kind typed initializer = tree.declaration (declaration_of kind typed initializer)
 
--- `const_assert` behind its attributes, as a declaration
+-- `const_assert` after its attributes, as a declaration
 abbrev pub assert_declaration : Attributed ConstAssert → GlobalDeclaration
 assert_declaration = as_declaration tree.const_assert
 

@@ -4,7 +4,7 @@
 -- statements (`led`, `left_side`), attributes with any name, and `--` in a sum, as a subtraction of
 -- a negation.
 -- L is the dialect. Where a text is recognised alone, names are identifier tokens alone, `--`
--- stands in no sum, nothing is checked, and the A* of `led` and `left_side` are none; all else is
+-- is in no sum, nothing is checked, and the A* of `led` and `left_side` are none; all else is
 -- as in the whole language.
 use Rattle.std.specs.Prelude.{ℕ, List, [], ◌∷◌, Some}
 use Rattle.grammar.specs.Grammar.{Grammar.token, Grammar.symbol, Grammar.left_chain}

@@ -50,7 +50,7 @@ print_attribute (workgroup_size w) = print_workgroup_size w
 print_attribute (type_constraint t) = codes "@type(" ++ print_type_constraint t ++ codes ")"
 print_attribute (custom c) = print_custom c
 
--- attributes with a space between each two, and an end behind them if there are any
+-- attributes with a space between each two, and an end after them if there are any
 abbrev pub print_attributes : List ℕ → Attributes → List ℕ
 print_attributes end [] = []
 print_attributes end (a ∷ more) =

@@ -8,11 +8,11 @@ use Rattle.wgsl_model.specs.Trees.Statements.{DeclarationKind, const_kind, overr
 use Rattle.wgsl_model.specs.Printed.Expressions.{print_expression_node, print_type, print_call}
 use Rattle.wgsl_model.specs.Printed.Attributes.{print_attribute_line}
 
--- a node behind its attributes, which are on a line of their own
+-- a node after its attributes, which are on a line of their own
 abbrev pub print_attributed : {Node : Type 0} → (Node → List ℕ) → Attributed Node → List ℕ
 print_attributed print a = print_attribute_line a.attributes ++ print a.node
 
--- an access mode behind an address space, if there is one
+-- an access mode after an address space, if there is one
 abbrev pub print_access_mode : Option AccessMode → List ℕ
 print_access_mode None = []
 print_access_mode (Some mode) = codes ", " ++ access_mode_text mode
@@ -28,12 +28,12 @@ print_kind override_kind = codes "override"
 print_kind let_kind = codes "let"
 print_kind (var_kind t) = codes "var" ++ print_var_template t
 
--- the type behind a colon, if there is one
+-- the type after a colon, if there is one
 abbrev pub print_typed : Option TypeExpression → List ℕ
 print_typed None = []
 print_typed (Some t) = codes ": " ++ print_type t
 
--- the value behind an equals sign, if there is one
+-- the value after an equals sign, if there is one
 abbrev pub print_initializer : Option ExpressionNode → List ℕ
 print_initializer None = []
 print_initializer (Some e) = codes " = " ++ print_expression_node e

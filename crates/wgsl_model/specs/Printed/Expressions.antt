@@ -16,7 +16,7 @@ print_literal (abstract_float text) = text
 print_literal (f32 text) = text ++ codes "f"
 print_literal (f16 text) = text ++ codes "h"
 
--- an integer literal without a suffix; with a `.` behind it a float would be read
+-- an integer literal without a suffix; with a `.` after it a float would be read
 abbrev pub is_abstract_int : Expression → Bool
 is_abstract_int (literal (abstract_int n)) = true
 is_abstract_int e = false

@@ -22,7 +22,7 @@ print_enable d = codes "enable " ++ joined (codes ", ") d.extensions ++ codes ";
 abbrev pub print_requires : RequiresDirective → List ℕ
 print_requires d = codes "requires " ++ joined (codes ", ") d.extensions ++ codes ";"
 
--- what stands behind the attributes of a directive
+-- what is after the attributes of a directive
 abbrev pub print_unattributed_directive : UnattributedDirective → List ℕ
 print_unattributed_directive (diagnostic d) = print_diagnostic d
 print_unattributed_directive (enable d) = print_enable d
@@ -47,7 +47,7 @@ print_struct s = codes "struct " ++ s.ident ++ codes " {\n"
 abbrev pub print_parameter : FormalParameter → List ℕ
 print_parameter p = print_attributes_before p.attributes ++ p.ident ++ codes ": " ++ print_type p.ty
 
--- what a function returns, behind its arrow, if it is there
+-- what a function returns, after its arrow, if it is there
 abbrev pub print_result : Attributes → Option TypeExpression → List ℕ
 print_result attributes None = []
 print_result attributes (Some t) = codes "-> " ++ print_attributes_before attributes ++ print_type t ++ codes " "
@@ -57,7 +57,7 @@ print_function f =
     codes "fn " ++ f.ident ++ codes "(" ++ joined (codes ", ") (map print_parameter f.parameters) ++ codes ") "
     ++ print_result f.return_attributes f.return_type ++ print_compound f.body
 
--- what stands behind the attributes of a declaration
+-- what is after the attributes of a declaration
 abbrev pub print_unattributed_declaration : UnattributedDeclaration → List ℕ
 print_unattributed_declaration void = codes ";"
 print_unattributed_declaration (declaration d) = print_declaration d
@@ -69,7 +69,7 @@ print_unattributed_declaration (const_assert c) = print_assert c
 abbrev pub print_global_declaration : GlobalDeclaration → List ℕ
 print_global_declaration = print_attributed print_unattributed_declaration
 
--- what stands behind the attributes of a declaration is empty
+-- what is after the attributes of a declaration is empty
 abbrev pub is_void_declaration : UnattributedDeclaration → Bool
 is_void_declaration void = true
 is_void_declaration d = false
@@ -84,7 +84,7 @@ declaration_texts [] = []
 declaration_texts (d ∷ ds) = if is_void d.node then declaration_texts ds
     else print_global_declaration d.node ∷ declaration_texts ds
 
--- directives on lines of their own, and an empty line behind them if there are any
+-- directives on lines of their own, and an empty line after them if there are any
 abbrev pub print_directives : List GlobalDirective → List ℕ
 print_directives [] = []
 print_directives (d ∷ ds) = joined (codes "\n") (map print_directive (d ∷ ds)) ++ codes "\n\n"

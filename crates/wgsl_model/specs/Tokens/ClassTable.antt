@@ -1,4 +1,5 @@
--- Written by tools/tables/tokens.py from crates/wgsl_model/tokens: the classes of tokens, and their texts.
+-- Written by tools/tables/tokens.py from crates/wgsl_model/tokens: the classes of tokens, and their
+-- texts.
 -- A class is a number; symbols come first, then keywords, then other tokens (WGSL, "Tokens").
 use Rattle.std.specs.Prelude.{ℕ, Bool, ◌&&◌, nat_le, nat_lt, List, [], ◌∷◌, codes}
 

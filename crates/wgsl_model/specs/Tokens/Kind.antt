@@ -1,4 +1,4 @@
--- What a token is, wherever it stands.
+-- What a token is, wherever it is.
 use Rattle.std.specs.Prelude.{ℕ, List}
 use Rattle.grammar.specs.Tokens.{Token, Payload, Payload.nothing, Payload.name}
 

@@ -64,7 +64,7 @@ u_suffix = code 117
 
 -- ---- floats
 
--- digits with a `.` behind, among or before them
+-- digits with a `.` after, among or before them
 abbrev pub digits_with_point : (ℕ → Bool) → Pattern
 digits_with_point is_digit = (digits is_digit then (code 46 then any is_digit)) or (code 46 then digits is_digit)
 
@@ -107,7 +107,7 @@ abbrev pub digits_value : ℕ → ℕ → List ℕ → ℕ
 digits_value radix n [] = n
 digits_value radix n (c ∷ cs) = digits_value radix (n * radix + digit_value c) cs
 
--- digits behind `0x` or `0X` are hexadecimal
+-- digits after `0x` or `0X` are hexadecimal
 abbrev pub number_value : List ℕ → ℕ
 number_value (z ∷ (x ∷ digits)) = if is_x x then digits_value 16 0 digits else digits_value 10 0 (z ∷ (x ∷ digits))
 number_value digits = digits_value 10 0 digits

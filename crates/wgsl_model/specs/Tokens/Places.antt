@@ -6,6 +6,6 @@ use Rattle.std.specs.Str.{encode_utf8_all}
 abbrev pub width : List ℕ → ℕ
 width text = length (encode_utf8_all text)
 
--- the place of a text that ends a source of so many bytes
+-- the place of a text that ends a source of a number of bytes
 abbrev pub place : ℕ → List ℕ → ℕ
 place total text = total - width text

@@ -12,7 +12,7 @@ use Rattle.wgsl_model.specs.Tokens.Pattern.{after_spelling}
 use Rattle.wgsl_model.specs.Tokens.Spelling.{spelling}
 use Rattle.wgsl_model.specs.Tokens.Trivia.{after_trivia, outside}
 
--- what stands before the rest
+-- what is before the rest
 abbrev pub front : List ℕ → List ℕ → List ℕ
 front text rest = take (length text - length rest) text
 
@@ -62,6 +62,6 @@ abbrev pub raw_at : List ℕ → Raw
 raw_at [] = none_left
 raw_at (c ∷ cs) = spelled (c ∷ cs) cs (after_spelling spelling (c ∷ cs))
 
--- the token behind the trivia at the front
+-- the token after the trivia at the front
 abbrev pub raw : List ℕ → Raw
 raw text = raw_at (after_trivia outside text)

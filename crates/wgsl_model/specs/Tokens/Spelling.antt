@@ -7,7 +7,7 @@ use Rattle.wgsl_model.specs.Tokens.Numbers.{number_spelling}
 use Rattle.wgsl_model.specs.Tokens.ClassTable.{symbols}
 
 -- a character that may start an identifier and those that may continue it, or `_` with at least one
--- of these behind it
+-- of these after it
 abbrev pub identifier : Pattern
 identifier = (one is_xid_start then any is_xid_continue)
     or (code 95 then (one is_xid_continue then any is_xid_continue))

@@ -8,8 +8,8 @@ use Rattle.wgsl_model.specs.Faults.Kinds.{invalid_token}
 use Rattle.wgsl_model.specs.Tokens.Templates.{is_word, NoTemplate, Template}
 pub use Rattle.wgsl_model.specs.Tokens.Places.{width, place}
 
--- The tokens of a text that ends a source of so many bytes, and how they end: with the text, or
--- with the first invalid token. A template list behind a word is taken whole; every other token
+-- The tokens of a text that ends a source of a number of bytes, and how they end: with the text, or
+-- with the first invalid token. A template list after a word is taken whole; every other token
 -- stands for itself.
 pub data TokensOf (total : ℕ) : List ℕ → List Token → Ending → Type 0 where
   at_end : (text : List ℕ) → raw text ≡ none_left → TokensOf total text [] finished

@@ -2,18 +2,18 @@
 use Rattle.std.specs.Prelude.{ℕ, zero, suc, ◌&&◌, ◌==◌, if◌then◌else◌, List, [], ◌∷◌}
 use Rattle.wgsl_model.specs.Tokens.Characters.{is_blank, is_line_break}
 
--- where a character stands
+-- where a character is
 pub data Place : Type 0 where
   -- in no comment
   outside : Place
   -- in a line comment
   in_line : Place
-  -- in a block comment that stands in so many others
+  -- in a block comment that is in a number of others
   in_block : ℕ → Place
   -- on the second character of a sign of two, which leads to a place
   second : Place → Place
 
--- where a character stands behind the end of a block comment that stands in so many others
+-- where a character is after the end of a block comment that is in a number of others
 abbrev pub out_of_block : ℕ → Place
 out_of_block zero = outside
 out_of_block (suc n) = in_block n

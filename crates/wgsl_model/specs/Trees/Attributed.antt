@@ -1,8 +1,8 @@
--- Attributes, and what stands behind them.
+-- Attributes, and what is after them.
 use Rattle.std.specs.Prelude.{[]}
 use Rattle.wgsl_model.specs.Trees.Attributes.{Attributes}
 
--- a node behind its attributes
+-- a node after its attributes
 pub record Attributed (Node : Type 0) : Type 0 where
   pub attributes : Attributes
   pub node : Node

@@ -1,5 +1,5 @@
 -- Trees without the empty items of their lists. An empty item is a `;` alone where a statement or a
--- declaration may stand (`void`). One that is itself the value, or the part of a `for` header,
+-- declaration may be (`void`). One that is itself the value, or the part of a `for` header,
 -- stays.
 use Rattle.std.specs.Prelude.{Bool, List, [], ◌∷◌, if◌then◌else◌}
 use Rattle.wgsl_model.specs.Trees.Spanned.{Spanned}
@@ -9,7 +9,7 @@ use Rattle.wgsl_model.specs.Trees.Units.{Function, GlobalDeclaration, Unattribut
 use Rattle.wgsl_model.specs.Printed.Statements as statements
 use Rattle.wgsl_model.specs.Printed.Units as units
 
--- a node behind its attributes
+-- a node after its attributes
 abbrev pub full_attributed : {Node : Type 0} → (Node → Node) → Attributed Node → Attributed Node
 full_attributed full a = record a { node = full a.node }
 

@@ -14,7 +14,7 @@ pub record ModulePath : Type 0 where
   pub origin : PathOrigin
   pub components : List (List ℕ)
 
--- the root, and the module that the path stands in
+-- the root, and the module that the path is in
 abbrev pub root_path : ModulePath
 root_path = record { origin = absolute; components = [] }
 
@@ -45,12 +45,12 @@ abbrev pub unless_faults : List PathFault → ModulePath → Result ModulePath P
 unless_faults [] path = Ok path
 unless_faults (fault ∷ faults) path = Err fault
 
--- the parts behind an origin are components, and none is one of the words
+-- the parts after an origin are components, and none is one of the words
 abbrev pub path_from : PathOrigin → List (List ℕ) → Result ModulePath PathFault
 path_from origin parts = unless_faults (filter_map (look_up first_words) parts)
     (record { origin = origin; components = parts })
 
--- how many `super` stand first
+-- how many `super` are first
 abbrev pub levels : List (List ℕ) → ℕ
 levels parts = length (take_while (λ part. bytes_eq part (codes "super")) parts)
 
@@ -88,7 +88,7 @@ extended path names = record path { components = path.components ++ names }
 abbrev pub without_last_names : ℕ → List (List ℕ) → List (List ℕ)
 without_last_names n names = take (length names - n) names
 
--- What a suffix keeps of the components of the path that it stands behind: none, or all but as many
+-- What a suffix keeps of the components of the path that it is after: none, or all but as many
 -- as it goes up.
 abbrev pub kept : List (List ℕ) → PathOrigin → List (List ℕ)
 kept names (relative n) = without_last_names n names

@@ -1,8 +1,8 @@
--- A node and where it stands. The trees are plain data: no pointers, no capacities; names and texts
+-- A node and where it is. The trees are plain data: no pointers, no capacities; names and texts
 -- are their bytes.
 use Rattle.grammar.specs.Tokens.{Span}
 
--- a node and where it stands
+-- a node and where it is
 pub record Spanned (Node : Type 0) : Type 0 where
   pub node : Node
   pub span : Span

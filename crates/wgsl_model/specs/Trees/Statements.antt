@@ -125,7 +125,7 @@ pub use Rattle.wgsl_model.specs.Trees.StatementNodes.{
 abbrev pub unattributed : UnattributedStatement → Statement
 unattributed s = statement [] s
 
--- a node behind its attributes, as a statement of its kind
+-- a node after its attributes, as a statement of its kind
 abbrev pub as_statement : {Node : Type 0} → (Node → UnattributedStatement) → Attributed Node → Statement
 as_statement kind a = statement a.attributes (kind a.node)
 
@@ -166,7 +166,7 @@ if_of condition block (else_ifs, last) =
 abbrev pub assert_of : ExpressionNode → ConstAssert
 assert_of e = record { expression = e }
 
--- `const_assert` behind its attributes, as a statement
+-- `const_assert` after its attributes, as a statement
 abbrev pub assert_statement : Attributed ConstAssert → Statement
 assert_statement = as_statement const_assert
 

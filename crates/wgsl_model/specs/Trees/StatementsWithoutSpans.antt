@@ -6,7 +6,7 @@ use Rattle.wgsl_model.specs.Trees.Statements.{Declaration, AssignmentStatement, 
 use Rattle.wgsl_model.specs.Trees.Units.{TypeAlias, StructMember, Struct, FormalParameter, Function, GlobalDirective, GlobalDeclaration, UnattributedDeclaration, UnattributedDeclaration.declaration, UnattributedDeclaration.type_alias, UnattributedDeclaration.structure, UnattributedDeclaration.function, UnattributedDeclaration.const_assert, TranslationUnit}
 use Rattle.wgsl_model.specs.Trees.WithoutSpans.{no_span, bare_spanned, bare_expression_node, bare_call, bare_type, bare_attributes}
 
--- a node behind its attributes
+-- a node after its attributes
 abbrev pub bare_attributed : {Node : Type 0} → (Node → Node) → Attributed Node → Attributed Node
 bare_attributed bare a = record { attributes = bare_attributes a.attributes; node = bare a.node }
 
@@ -39,7 +39,7 @@ abbrev pub bare_selector : CaseSelector → CaseSelector
 bare_selector default_selector = default_selector
 bare_selector (expression_selector e) = expression_selector (bare_expression_node e)
 
--- a statement in which no others stand
+-- a statement in which no others are
 abbrev pub bare_simple : UnattributedStatement → UnattributedStatement
 bare_simple (assignment a) = assignment (bare_assignment a)
 bare_simple (increment i) = increment (bare_increment i)

@@ -27,6 +27,6 @@ pub use Rattle.wgsl_model.specs.Trees.UnitNodes.{
   TranslationUnit,
 }
 
--- a node behind its attributes, as a declaration of its kind
+-- a node after its attributes, as a declaration of its kind
 abbrev pub as_declaration : {Node : Type 0} → (Node → UnattributedDeclaration) → Attributed Node → GlobalDeclaration
 as_declaration kind a = with_attributes a.attributes (kind a.node)

@@ -9,6 +9,6 @@ WordTable A = List (List ℕ × A)
 abbrev pub words_of : {A B : Type 0} → (A → List ℕ) → (A → B) → List A → WordTable B
 words_of text made values = map (λ value. (text value, made value)) values
 
--- values, each behind its word
+-- values, each after its word
 abbrev pub with_words : {A : Type 0} → (A → List ℕ) → List A → WordTable A
 with_words text values = words_of text (λ value. value) values

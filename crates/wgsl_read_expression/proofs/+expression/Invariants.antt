@@ -6,8 +6,8 @@ use Rattle.wgsl_lex_token.specs.View.{class_of_kind}
 use Rattle.wgsl_tree_words.specs.View.{binary_operator_view}
 use Rattle.wgsl_tree_expression.specs.View.{expression_node_view, template_arg_view}
 use Rattle.wgsl_read_cursor.specs.Reading.{state}
-use Rattle.wgsl_read_expression.specs.Rules.{factors_behind, products_from, summands_behind, bitwise_behind, logical_behind}
-use Rattle.wgsl_read_expression.proofs.Turns.{arguments_from, template_items_from, components_behind}
+use Rattle.wgsl_read_expression.specs.Rules.{factors_after, products_from, summands_after, bitwise_after, logical_after}
+use Rattle.wgsl_read_expression.proofs.Turns.{arguments_from, template_items_from, components_after}
 use Rattle.wgsl_read_expression.proofs.+expression.Given as goal
 
 abbrev pub decreases-arguments::parse_arguments : goal.decreases-arguments::parse_arguments
@@ -106,8 +106,8 @@ abbrev pub invariant-expression::parse_bitwise_operands-operands :
     goal.invariant-expression::parse_bitwise_operands-operands
 invariant-expression::parse_bitwise_operands-operands l =
     record {
-      whole : bitwise_behind (class_of_kind l.kind) (binary_operator_view l.operator)
-          (expression_node_view l.left) (state l.tokens) ≡ bitwise_behind (class_of_kind l.kind)
+      whole : bitwise_after (class_of_kind l.kind) (binary_operator_view l.operator)
+          (expression_node_view l.left) (state l.tokens) ≡ bitwise_after (class_of_kind l.kind)
           (binary_operator_view l.operator) (expression_node_view l.fn.left) (state l.fn.tokens);
       shorter : length (state l.tokens).rest ≤ length (state l.fn.tokens).rest;
     }
@@ -120,8 +120,8 @@ abbrev pub invariant-expression::parse_logical_operands-operands :
     goal.invariant-expression::parse_logical_operands-operands
 invariant-expression::parse_logical_operands-operands l =
     record {
-      whole : logical_behind (class_of_kind l.kind) (binary_operator_view l.operator)
-          (expression_node_view l.left) (state l.tokens) ≡ logical_behind (class_of_kind l.kind)
+      whole : logical_after (class_of_kind l.kind) (binary_operator_view l.operator)
+          (expression_node_view l.left) (state l.tokens) ≡ logical_after (class_of_kind l.kind)
           (binary_operator_view l.operator) (expression_node_view l.fn.left) (state l.fn.tokens);
       shorter : length (state l.tokens).rest ≤ length (state l.fn.tokens).rest;
     }
@@ -133,8 +133,8 @@ decreases-expression::parse_logical_operands-operands l = length (state l.tokens
 abbrev pub invariant-primary::parse_components-components : goal.invariant-primary::parse_components-components
 invariant-primary::parse_components-components l =
     record {
-      whole : components_behind (expression_node_view l.base) (state l.tokens)
-          ≡ components_behind (expression_node_view l.fn.base) (state l.fn.tokens);
+      whole : components_after (expression_node_view l.base) (state l.tokens)
+          ≡ components_after (expression_node_view l.fn.base) (state l.fn.tokens);
       shorter : length (state l.tokens).rest ≤ length (state l.fn.tokens).rest;
     }
 
@@ -144,8 +144,8 @@ decreases-primary::parse_components-components l = length (state l.tokens).rest
 abbrev pub invariant-sums::parse_factors-factors : goal.invariant-sums::parse_factors-factors
 invariant-sums::parse_factors-factors l =
     record {
-      whole : factors_behind (expression_node_view l.left) (state l.tokens)
-          ≡ factors_behind (expression_node_view l.fn.left) (state l.fn.tokens);
+      whole : factors_after (expression_node_view l.left) (state l.tokens)
+          ≡ factors_after (expression_node_view l.fn.left) (state l.fn.tokens);
       shorter : length (state l.tokens).rest ≤ length (state l.fn.tokens).rest;
     }
 
@@ -166,8 +166,8 @@ decreases-sums::parse_product_rest-factors l = length (state l.tokens).rest
 abbrev pub invariant-sums::parse_summands-summands : goal.invariant-sums::parse_summands-summands
 invariant-sums::parse_summands-summands l =
     record {
-      whole : summands_behind (expression_node_view l.left) (state l.tokens)
-          ≡ summands_behind (expression_node_view l.fn.left) (state l.fn.tokens);
+      whole : summands_after (expression_node_view l.left) (state l.tokens)
+          ≡ summands_after (expression_node_view l.fn.left) (state l.fn.tokens);
       shorter : length (state l.tokens).rest ≤ length (state l.fn.tokens).rest;
     }
 

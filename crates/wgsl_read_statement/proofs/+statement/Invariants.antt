@@ -23,8 +23,8 @@ decreases-loops::parse_continuing_rest l = 9 * length (state l.tokens.now).rest 
 abbrev pub decreases-statement::parse_statement : goal.decreases-statement::parse_statement
 decreases-statement::parse_statement l = 9 * length (state l.tokens.now).rest + 7
 
-abbrev pub decreases-statement::parse_statement_behind : goal.decreases-statement::parse_statement_behind
-decreases-statement::parse_statement_behind l = 9 * length (state l.tokens.now).rest + 6
+abbrev pub decreases-statement::parse_statement_after : goal.decreases-statement::parse_statement_after
+decreases-statement::parse_statement_after l = 9 * length (state l.tokens.now).rest + 6
 
 abbrev pub decreases-statement::parse_statement_part : goal.decreases-statement::parse_statement_part
 decreases-statement::parse_statement_part l = 9 * length (state l.tokens.now).rest + 5

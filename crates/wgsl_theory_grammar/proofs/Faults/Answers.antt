@@ -1,4 +1,4 @@
--- The reader on lists answers what the definitions name.
+-- The reader on lists returns what the definitions name.
 use Rattle.grammar.specs.Faults as engine
 use Rattle.std.proofs.Common.{◌≡◌, ◌↔◌, ℕ, suc, true, false, List, [], ◌∷◌, ◌++◌, length, inl, inr, refl, sym, ap, ap₂, subst, ◌∙◌, append_assoc, append-nil, arith, length-append}
 use Rattle.std.specs.Prelude.{◌==◌, Some, None}
@@ -32,7 +32,7 @@ none_plain : (ts : List Token) (ending : Ending) (k : ℕ) → engine.HasNoFault
     → NoFaultBefore ts ending k
 none_plain ts ending k h x ys f l = h x ys (plain_is_fault ts ending x ys f) l
 
--- ---- tokens that did not end because memory was refused
+-- ---- tokens that did not end because an allocation failed
 said_is : (n : Symbol) (ts : List Token) (ending : Ending) → wants_memory ending ≡ false
     → (o : Outcome (Value n)) → Says body apart (of n) ts o → IsAnswer n ts ending (answer_said ts ending o)
 said_is n ts finished m (ok v []) h = (refl, factored_is_written parsed checking n v ts [] h.0)
@@ -51,7 +51,7 @@ said_is n ts ending m (bad x us) (p, w, i, f, k) = checked_first p us x w (viabl
     (fault_is_plain ts ending m x us f) (none_plain ts ending (suc (length us)) k)
 said_is n ts ending m out h = absurd h
 
--- ---- tokens that ended because memory was refused: as if a `(` followed
+-- ---- tokens that ended because an allocation failed: as if a `(` followed
 abbrev pub followed : List Token → List Token
 followed ts = ts ++ (opening ∷ [])
 
@@ -74,14 +74,14 @@ followed_whole : (o : Arguments) (ys : List Token) (ending : Ending)
 followed_whole None ys ending w = followed_unopened ys ending w
 followed_whole (Some es) ys ending w = tt
 
--- a front and an end, with a token more behind
+-- a front and an end, with a token more after
 longer : (ts before us : List Token) → ts ≡ before ++ us → followed ts ≡ before ++ followed us
 longer ts before us w = ap followed w ∙ append_assoc before us (opening ∷ [])
 
 shorter : (ts before us : List Token) → followed ts ≡ before ++ followed us → ts ≡ before ++ us
 shorter ts before us w = same_front ts (before ++ us) (opening ∷ []) (w ∙ sym (append_assoc before us (opening ∷ [])))
 
--- a slice and what is behind it
+-- a slice and what is after it
 slice_longer : (ts before p ys : List Token) → ts ≡ before ++ (p ++ ys) → followed ts ≡ before ++ (p ++ followed ys)
 slice_longer ts before p ys w = longer ts before (p ++ ys) w
     ∙ ap (λ (z : List Token). before ++ z) (append_assoc p ys (opening ∷ []))
@@ -113,7 +113,7 @@ followed_fault ts ending x ys (attribute_fault_at (before, p, v, w, d, c, e)) = 
 followed_fault ts ending x ys (var_template_fault (before, p, es, w, a, d, e)) =
     var_template_fault (before, p, es, slice_shorter ts before p ys w, a, d, e)
 
--- an end of tokens with a `(` behind them has it too
+-- an end of tokens with a `(` after them has it too
 split : (ts p : List Token) (u : Token) (us : List Token) → followed ts ≡ p ++ (u ∷ us)
     → (vs : List Token) × ((u ∷ us) ≡ followed vs) × (ts ≡ p ++ vs)
 split ts [] u us e = (ts, sym e, refl)
@@ -196,7 +196,7 @@ want_is n ts x m (stuck (t ∷ (u ∷ us))) h = other_left n ts x m t u us h
 want_is n ts x m (bad y us) h = faulty_left n ts x m y us h
 want_is n ts x m out h = absurd h
 
--- what the reader answers is true
+-- what the reader returns is true
 pub answers_are_true : (n : Symbol) (ts : List Token) (ending : Ending) → IsAnswer n ts ending (answer_of n ts ending)
 answers_are_true n ts finished = said_is n ts finished refl
     (read_all tables checking body rank_limit (of n) ts)

@@ -116,15 +116,15 @@ ends cs K J (left_chain f g h) = ends cs K J g && ends cs K J h
 abbrev Ending : {A : Type 0} → List ℕ → (A → List Token → List Token → Type 0) → Type 0
 Ending {A} cs P = (v : A) (xs ys : List Token) → P v xs ys → (p : List Token) × (xs ≡ p ++ ys) × EndsWith cs p
 
--- behind a list of which nothing is asked, an end that takes a token
-ends_behind : (cs : List ℕ) (p q : List Token) → EndsWith cs q → (q ≡ [] → ⊥) → EndsWith cs (p ++ q)
-ends_behind cs p [] e n = absurd (n refl)
-ends_behind cs p (t ∷ q) (inl e) n = absurd (n e)
-ends_behind cs p (t ∷ q) (inr e) n = inr (ap (λ (z : ℕ). is_among z cs) (last_append 0 p (t ∷ q)) ∙ e)
+-- after a list of which nothing is asked, an end that takes a token
+ends_after : (cs : List ℕ) (p q : List Token) → EndsWith cs q → (q ≡ [] → ⊥) → EndsWith cs (p ++ q)
+ends_after cs p [] e n = absurd (n refl)
+ends_after cs p (t ∷ q) (inl e) n = absurd (n e)
+ends_after cs p (t ∷ q) (inr e) n = inr (ap (λ (z : ℕ). is_among z cs) (last_append 0 p (t ∷ q)) ∙ e)
 
 ends_append : (cs : List ℕ) (p q : List Token) → EndsWith cs p → EndsWith cs q → EndsWith cs (p ++ q)
 ends_append cs p [] d e = subst (EndsWith cs) (sym (append-nil p)) d
-ends_append cs p (t ∷ q) d e = ends_behind cs p (t ∷ q) e (λ z. cc)
+ends_append cs p (t ∷ q) d e = ends_after cs p (t ∷ q) e (λ z. cc)
 
 not_empty : (q ms ys : List Token) → ms ≡ q ++ ys → length ys < length ms → q ≡ [] → ⊥
 not_empty q ms ys w l e =
@@ -161,7 +161,7 @@ ending M D cs K J H (sequence g h) e v xs ys (ms, d, i) =
           let w = framed M D H.frames g v.0 xs ms d in (
             w.0 ++ u.0,
             joined w.0 u.0 xs ms ys w.1 u.1,
-            ends_behind cs w.0 u.0 u.2
+            ends_after cs w.0 u.0 u.2
                 (not_empty u.0 ms ys u.1 (shorter M D H.frames J H.takes h k v.1 ms ys i)),
           )
       | inr k ↦

@@ -45,13 +45,13 @@ data Shape (F : List Token) (x : Fault) : Type 0 where
       → Derives unchecked written var_template v (a ∷ w) → var_fault v (span_of (a ∷ w)) ≡ Some x
       → Shape F x
 
--- a list behind which nothing stands
+-- a list after which nothing is
 all_of : (xs p : List Token) → xs ≡ p ++ [] → xs ≡ p
 all_of xs p e = e ∙ append-nil p
 
 -- the last class of a list with an end that is not empty
-last_behind : (c : ℕ) (p : List Token) (t : Token) (q : List Token) → last_class c (p ++ (t ∷ q)) ≡ last_class t.class q
-last_behind c p t q = last_append c p (t ∷ q)
+last_after : (c : ℕ) (p : List Token) (t : Token) (q : List Token) → last_class c (p ++ (t ∷ q)) ≡ last_class t.class q
+last_after c p t q = last_append c p (t ∷ q)
 
 ends_token : (c : ℕ) (p : List Token) → EndsWith (c ∷ []) p → (p ≡ [] → ⊥) → (d : ℕ) → last_class d p ≡ c
 ends_token c [] e n d = absurd (n refl)
@@ -90,7 +90,7 @@ shape_of_attribute ts ending x ys (before, p, v, w, d, c, e) =
         let l : p ≡ q.0 ∷ q.1.0 ∷ us = e1 ∙ ap (λ (u : List Token). q.0 ∷ u) e2 in
         let full : us ≡ [] → ⊥ = λ nil. let r = sym o.2.1.1 ∙ nil in cc in
         let last : last_class 0 (before ++ p) ≡ SymParenRight =
-        ap (λ (u : List Token). last_class 0 (before ++ u)) l ∙ (last_behind 0 before q.0 (q.1.0 ∷ us)
+        ap (λ (u : List Token). last_class 0 (before ++ u)) l ∙ (last_after 0 before q.0 (q.1.0 ∷ us)
         ∙ ends_token SymParenRight us (subst (EndsWith (SymParenRight ∷ [])) (sym t) b.2) full q.1.0.class) in
         attribute_shape before q.0 (q.1.0 ∷ us) v (ap (λ (u : List Token). before ++ u) l)
         (one_class _ _ m1) (
@@ -118,7 +118,7 @@ shape_of_var ts x ys (before, p, es, w, i, d, e) =
         let o = unroll unchecked written template_list fs ms [] z in
         let full : ms ≡ [] → ⊥ = λ nil. let r = sym o.2.1.1 ∙ nil in cc in
         let last : last_class 0 (before ++ p) ≡ TemplateArgsEnd =
-        ap (λ (u : List Token). last_class 0 (before ++ u)) e1 ∙ (last_behind 0 before q.0 ms
+        ap (λ (u : List Token). last_class 0 (before ++ u)) e1 ∙ (last_after 0 before q.0 ms
         ∙ ends_token TemplateArgsEnd ms (subst (EndsWith (TemplateArgsEnd ∷ [])) (sym t) b.2) full q.0.class) in
         var_shape before q.0 ms given (ap (λ (u : List Token). before ++ u) e1) (one_class _ _ m1)
         (none_var ms (subst (NoneOf attribute_or_var) (sym s) n.2)) last
@@ -140,7 +140,7 @@ shape_of ts ending x ys (var_template_fault r) = shape_of_var ts x ys r
 
 -- ---- the last class of each
 last_one : (p : List Token) (t : Token) (F : List Token) → F ≡ p ++ (t ∷ []) → last_class 0 F ≡ t.class
-last_one p t F w = ap (λ (u : List Token). last_class 0 u) w ∙ last_behind 0 p t []
+last_one p t F w = ap (λ (u : List Token). last_class 0 u) w ∙ last_after 0 p t []
 
 eqb_same : (c : ℕ) → eqb c c ≡ true
 eqb_same c = eq-eqb c c refl
@@ -152,7 +152,7 @@ no_name : (F : List Token) (c d : ℕ) → last_class 0 F ≡ c → last_class 0
     → is_among c names ≡ true → is_among d names ≡ false → {A : Type 0} → A
 no_name F c d e f m n = absurd (clash _ (subst (λ (z : ℕ). is_among z names ≡ true) (sym e ∙ f) m) n)
 
--- two lists with one token behind
+-- two lists with one token after
 snoc_same : (p q : List Token) (a b : Token) → p ++ (a ∷ []) ≡ q ++ (b ∷ []) → (p ≡ q) × (a ≡ b)
 snoc_same [] [] a b e = let f : a ≡ b = cc in (refl, f)
 snoc_same [] (y ∷ q) a b e = let f = ap length e in absurd (omega (arith, f, length-append q (b ∷ [])))
@@ -161,7 +161,7 @@ snoc_same (x ∷ p) (y ∷ q) a b e =
     let h : x ≡ y = cc in let i : p ++ (a ∷ []) ≡ q ++ (b ∷ []) = cc in
     let r = snoc_same p q a b i in (ap₂ (λ (z : Token) (u : List Token). z ∷ u) h r.0, r.1)
 
--- two ends that begin with a token of a class that stands nowhere behind it
+-- two ends that begin with a token of a class that is nowhere after it
 none_there : (c : ℕ) (t b : List Token) (q : List Token) (a : Token) → NoneOf (c ∷ []) t
     → t ≡ q ++ (a ∷ b) → a.class ≡ c → ⊥
 none_there c t b [] a n e k =
@@ -205,7 +205,7 @@ before_last : (p q : List Token) (a b s t : Token) (F : List Token)
 before_last p q a b s t F e f =
     let r = snoc_same (p ++ (a ∷ [])) (q ++ (b ∷ [])) s t (sym e ∙ f) in ((snoc_same p q a b r.0).1, r.1)
 
--- a reserved word that is the name of an attribute stands behind `@`
+-- a reserved word that is the name of an attribute is after `@`
 not_attribute : (before p : List Token) (a s t : Token) (F : List Token) → F ≡ before ++ (s ∷ [])
     → F ≡ (p ++ (a ∷ [])) ++ (t ∷ []) → IsApart before → a.class ≡ SymAttr → {A : Type 0} → A
 not_attribute before p a s t F e f i k =

@@ -1,4 +1,4 @@
--- Where nothing is checked, the reader answers what the definitions name.
+-- Where nothing is checked, the reader returns what the definitions name.
 use Rattle.std.proofs.Common.{◌≡◌, List, [], ◌∷◌, ◌++◌, refl, sym, ap, subst, ◌∙◌, append-nil}
 use Rattle.std.specs.Prelude.{None}
 use Rattle.grammar.specs.Tokens.{Token, Fault, span_between}
@@ -80,7 +80,7 @@ said_is L n Holds ts (carried x) f (stuck []) (i, j, k) = unchecked_carried x (v
 said_is L n Holds ts ending f (bad x us) (p, w, i, g, k) = absurd (no_fault L ts x us g)
 said_is L n Holds ts ending f out h = absurd h
 
--- what the reader answers is true
+-- what the reader returns is true
 answers_are_true : (L : Dialect) (n : Symbol) (Holds : Value n → Type 0) (ts : List Token) (ending : Ending)
     → ((v : Value n) → Derives checking (unchecked_body L) (of n) v ts → Holds v)
     → IsUncheckedAnswer L n Holds ts ending (unchecked_answer_of L n ts ending)

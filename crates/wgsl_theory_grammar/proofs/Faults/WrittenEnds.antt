@@ -10,7 +10,7 @@ use Rattle.wgsl_model.specs.Grammar.Written.{written}
 use Rattle.wgsl_theory_grammar.proofs.Forms.LevelLinks.{taking, written_takes}
 use Rattle.wgsl_theory_grammar.proofs.Faults.Avoids.{NoneOf, none_of, takes_only, only_part, EndsWith, ends, ending_part}
 
--- the symbols that stand in expressions
+-- the symbols that are in expressions
 abbrev pub in_expression : Symbol → Bool
 in_expression ident = true
 in_expression type_specifier = true
@@ -77,7 +77,7 @@ template_closes = ending_part unchecked written (TemplateArgsEnd ∷ []) templat
 abbrev pub closers : List ℕ
 closers = SymSemicolon ∷ SymBraceRight ∷ []
 
--- those whose own tokens end so, where the symbols do that stand last in them; and so on, some
+-- those whose own tokens end so, where the symbols do that are last in them; and so on, some
 -- steps deep
 abbrev pub ends_by : ℕ → Symbol → Bool
 ends_by zero n = false

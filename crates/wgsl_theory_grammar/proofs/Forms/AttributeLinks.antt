@@ -1,4 +1,4 @@
--- Attributes, and what stands behind them: both forms derive the same, and a place begins with the
+-- Attributes, and what is after them: both forms derive the same, and a place begins with the
 -- first attribute.
 use Rattle.std.proofs.Common.{◌≡◌, ℕ, List, [], ◌∷◌, ◌++◌, ◌⊎◌, inl, inr, refl, sym, ap, subst, ◌∙◌}
 use Rattle.grammar.specs.Tokens.{Token, Span, last_end, span_between}
@@ -11,7 +11,7 @@ use Rattle.wgsl_model.specs.Grammar.Checks.{AttributeParts}
 use Rattle.wgsl_model.specs.Grammar.StatementParts.{attributes, leading, led}
 use Rattle.wgsl_model.specs.Grammar.Symbols.{Dialect, Dialect.parsed, Dialect.recognized, Symbol.attribute, Rule}
 use Rattle.wgsl_model.specs.Grammar.Written.{rules}
-use Rattle.wgsl_theory_grammar.specs.Factored.{Further.attribute_list, FactoredSymbol.of, FactoredSymbol.further, FactoredRule, attributes_before, leading_list, leading_before, either_behind, items_behind, begun_by, factored}
+use Rattle.wgsl_theory_grammar.specs.Factored.{Further.attribute_list, FactoredSymbol.of, FactoredSymbol.further, FactoredRule, attributes_before, leading_list, leading_before, either_after, items_after, begun_by, factored}
 use Rattle.wgsl_theory_grammar.proofs.Forms.ListLinks.{IsToken}
 use Rattle.wgsl_theory_grammar.proofs.Forms.Taking.{takes_one}
 use Rattle.wgsl_theory_grammar.proofs.Forms.Levels.{Runs, runs_join, span_runs}
@@ -56,7 +56,7 @@ pub led_from : (L : Dialect) (M : Mode) (D : WrittenRelation) (E : FactoredRelat
 led_from L M D E K make g h H v xs ys (p, e, (ms, d, x)) =
     (p, e, (ms, leading_from L M D E K p.0 xs ms d, H p.1 ms ys x))
 
--- ---- another part behind the same attributes
+-- ---- another part after the same attributes
 pub leading_kept : (L : Dialect) (M : Mode) (E : FactoredRelation) {A B : Type 0}
     (make : Attributes → A → B) (g h : FactoredRule A) → Kept (Means M E g) (Means M E h)
     → Kept (Means M E (leading_before L make g)) (Means M E (leading_before L make h))
@@ -67,7 +67,7 @@ pub attributes_kept : (M : Mode) (E : FactoredRelation) {A B : Type 0} (make : A
     → Kept (Means M E (attributes_before make g)) (Means M E (attributes_before make h))
 attributes_kept M E make g h H v xs ys (p, e, (ms, d, x)) = (p, e, (ms, d, H p.1 ms ys x))
 
--- the part, and a token behind it
+-- the part, and a token after it
 pub leading_closed : (L : Dialect) (M : Mode) (E : FactoredRelation) {A B : Type 0}
     (make : Attributes → A → B) (g : FactoredRule A) (c : ℕ) (t : Token) (v : B) (xs ms ys : List Token)
     → Means M E (leading_before L make g) v xs ms → IsToken c t ms ys
@@ -75,32 +75,32 @@ pub leading_closed : (L : Dialect) (M : Mode) (E : FactoredRelation) {A B : Type
 leading_closed L M E {A} make g c t v xs ms ys (p, e, (us, d, x)) k =
     let i : A × Token = (p.1, t) in (p, e, (us, d, (i, refl, (ms, x, k))))
 
--- ---- one of two behind attributes
+-- ---- one of two after attributes
 pub either_first : (L : Dialect) (M : Mode) (E : FactoredRelation) {A B : Type 0}
     (make : Attributes → A → B) (g h : FactoredRule A)
-    → Kept (Means M E (attributes_before make g)) (Means M E (either_behind L make g h))
+    → Kept (Means M E (attributes_before make g)) (Means M E (either_after L make g h))
 either_first parsed M E make g h v xs ys (p, e, (ms, d, x)) = (p, e, (ms, d, inl x))
 either_first recognized M E make g h v xs ys d = inl d
 
 pub either_second : (L : Dialect) (M : Mode) (E : FactoredRelation) {A B : Type 0}
     (make : Attributes → A → B) (g h : FactoredRule A)
-    → Kept (Means M E (leading_before L make h)) (Means M E (either_behind L make g h))
+    → Kept (Means M E (leading_before L make h)) (Means M E (either_after L make g h))
 either_second parsed M E make g h v xs ys (p, e, (ms, d, x)) = (p, e, (ms, d, inr x))
 either_second recognized M E make g h v xs ys d = inr d
 
 pub either_of : (L : Dialect) (M : Mode) (E : FactoredRelation) {A B : Type 0} (make : Attributes → A → B)
-    (g h : FactoredRule A) (v : B) (xs ys : List Token) → Means M E (either_behind L make g h) v xs ys
+    (g h : FactoredRule A) (v : B) (xs ys : List Token) → Means M E (either_after L make g h) v xs ys
     → Means M E (attributes_before make g) v xs ys ⊎ Means M E (leading_before L make h) v xs ys
 either_of parsed M E make g h v xs ys (p, e, (ms, d, inl x)) = inl (p, e, (ms, d, x))
 either_of parsed M E make g h v xs ys (p, e, (ms, d, inr x)) = inr (p, e, (ms, d, x))
 either_of recognized M E make g h v xs ys d = d
 
--- ---- an item of two kinds behind attributes and the rest, or what is no item
+-- ---- an item of two kinds after attributes and the rest, or what is no item
 module _ (L : Dialect) (M : Mode) (E : FactoredRelation) {A R B : Type 0}
     (put : (A × Span) × R → Attributes → B) (g h : FactoredRule A) (rest : FactoredRule R)
     (other : FactoredRule (Attributes → B)) where
   abbrev pub Items : B → List Token → List Token → Type 0
-  Items v xs ys = Means M E (items_behind L put g h rest other) v xs ys
+  Items v xs ys = Means M E (items_after L put g h rest other) v xs ys
 
   pub data ItemsOf : B → List Token → List Token → Type 0 where
     first_item : (a : Attributes) (u : A) (r : R) (xs ks ms ys : List Token)
@@ -192,7 +192,7 @@ begins M D H xs _ _ (more a b ys zs c (x, e, d)) =
     one_more a b r.0 xs ys zs (begins M D H xs a ys c)
     (subst (λ (z : Spanned Attribute). Runs z.span.start r.0 ys zs) e r.1)
 
--- the place of attributes and what stands behind them
+-- the place of attributes and what is after them
 begun : (a : Attributes) (xs ks ms : List Token) (s e : ℕ) → Begins a xs ks → Runs s e ks ms
     → begun_by a (span_between ks ms) ≡ span_between xs ms
 begun a xs ks ms s e (inl (n, w)) r = ap (λ (z : Attributes). begun_by z (span_between ks ms)) n

@@ -14,7 +14,7 @@ use Rattle.wgsl_model.specs.Trees.Statements.{BreakIfStatement, StatementNode, S
 use Rattle.wgsl_model.specs.Grammar.StatementParts.{placed_statement, else_if, else_block, break_if, attributes, statements}
 use Rattle.wgsl_model.specs.Grammar.Symbols.{Dialect, Symbol.statement, Symbol.switch_clause, Symbol.continuing_statement, Rule, Symbol.expression}
 use Rattle.wgsl_model.specs.Grammar.Written.{rules}
-use Rattle.wgsl_theory_grammar.specs.Factored.{Further.attribute_list, Further.loop_rest, Further.continuing_rest, Further.clause_rest, Further.else_rest, Further.switch_part, FactoredSymbol.of, FactoredSymbol.further, with_break, factored, Further.braced_part, Further.ended_part, Further.plain_statement, Further.continuing_part, FactoredRule, attributes_before, leading_list, leading_before, begun_by, statement_behind, statement_first, break_part, with_condition, with_continuing}
+use Rattle.wgsl_theory_grammar.specs.Factored.{Further.attribute_list, Further.loop_rest, Further.continuing_rest, Further.clause_rest, Further.else_rest, Further.switch_part, FactoredSymbol.of, FactoredSymbol.further, with_break, factored, Further.braced_part, Further.ended_part, Further.plain_statement, Further.continuing_part, FactoredRule, attributes_before, leading_list, leading_before, begun_by, statement_after, statement_first, break_part, with_condition, with_continuing}
 use Rattle.wgsl_theory_grammar.specs.Meaning.{elses}
 use Rattle.wgsl_theory_grammar.specs.MeaningRules.{braced_rule, ended_rule}
 use Rattle.wgsl_theory_grammar.proofs.Forms.ListLinks.{IsToken, many_back, many_front, many_none, several_in, several_out}
@@ -77,18 +77,18 @@ switch_part_out L M v xs ys (p, e, (q, g, (ms, k, (us, dx, (vs, da, (r, h, (ws, 
       (q', refl, (ms, k, (us, dx, (vs, da, (r', refl, (ws, kb, c)))))),
     )
 
--- ---- statements, by what stands behind their attributes
+-- ---- statements, by what is after their attributes
 data StatementOf (L : Dialect) (M : Mode) : StatementNode → List Token → List Token → Type 0 where
   plain_one : (x : StatementNode) (xs ms : List Token)
       → Part M (factored L) (further plain_statement) x xs ms → StatementOf L M x xs ms
   braced_one : (a : Attributes) (u : UnattributedStatement) (xs ks ms : List Token)
       → Part M (factored L) (further attribute_list) a xs ks
       → Part M (factored L) (further braced_part) u ks ms
-      → StatementOf L M (statement_behind a (u, span_between ks ms)) xs ms
+      → StatementOf L M (statement_after a (u, span_between ks ms)) xs ms
   ended_one : (a : Attributes) (u : UnattributedStatement) (xs ks ms : List Token)
       → Means M (Part M (factored L)) (leading_list L) a xs ks
       → Means M (Part M (factored L)) ended_or_break u ks ms
-      → StatementOf L M (statement_behind a (u, span_between ks ms)) xs ms
+      → StatementOf L M (statement_after a (u, span_between ks ms)) xs ms
 
 statement_of : (L : Dialect) (M : Mode) (x : StatementNode) (xs ms : List Token)
     → ReadPart L M statement x xs ms → StatementOf L M x xs ms
@@ -100,26 +100,26 @@ statement_of L M x xs ms d = go (unroll M (factored L) (of statement) x xs ms d)
     same : (p : Attributes × UnattributedStatement) (n : Statement) (ks : List Token)
         → begun_by p.0 (span_between ks ms) ≡ span_between xs ms → made p ≡ n
         → placed_statement n (span_between xs ms) ≡ x
-        → statement_behind p.0 (p.1, span_between ks ms) ≡ x
+        → statement_after p.0 (p.1, span_between ks ms) ≡ x
     same p n ks b q e = ap (placed_statement (made p)) b
         ∙ (ap (λ (z : Statement). placed_statement z (span_between xs ms)) q ∙ e)
 
-    behind : (n : Statement) → placed_statement n (span_between xs ms) ≡ x
+    following : (n : Statement) → placed_statement n (span_between xs ms) ≡ x
         → Means M (Part M (factored L)) (attributes_before statement (symbol (further braced_part)))
         n xs ms ⊎ Means M (Part M (factored L)) (leading_before L statement ended_or_break) n xs ms
         → StatementOf L M x xs ms
-    behind n e (inl (p, q, (ks, l, s))) =
+    following n e (inl (p, q, (ks, l, s))) =
         let w = part_takes M (factored L) never_empty (body_takes L) (symbol (further braced_part)) refl p.1 ks ms s in
         subst (λ (z : StatementNode). StatementOf L M z xs ms)
         (same p n ks (list_begun L M p.0 xs ks ms l w) q e) (braced_one p.0 p.1 xs ks ms l s)
-    behind n e (inr (p, q, (ks, l, s))) =
+    following n e (inr (p, q, (ks, l, s))) =
         let w = part_takes M (factored L) never_empty (body_takes L) ended_or_break refl p.1 ks ms s in
         subst (λ (z : StatementNode). StatementOf L M z xs ms)
         (same p n ks (read_begun L M p.0 xs ks ms l w) q e) (ended_one p.0 p.1 xs ks ms l s)
 
     go : Means M (Part M (factored L)) (factored L (of statement)) x xs ms → StatementOf L M x xs ms
     go (inl s) = plain_one x xs ms s
-    go (inr (n, e, s)) = behind n e
+    go (inr (n, e, s)) = following n e
         (either_of L M (Part M (factored L)) statement (symbol (further braced_part)) ended_or_break n xs ms s)
 
 -- and back
@@ -129,11 +129,11 @@ ended_or_break_kinds = ended_rule
 
 braced_written : (L : Dialect) (M : Mode) (a : Attributes) (u : UnattributedStatement) (xs ks ms : List Token)
     → Means M (WrittenPart L M) attributes a xs ks → Means M (WrittenPart L M) braced_rule u ks ms
-    → WrittenPart L M statement (statement_behind a (u, span_between ks ms)) xs ms
+    → WrittenPart L M statement (statement_after a (u, span_between ks ms)) xs ms
 braced_written L M a u xs ks ms l s =
     let w = part_takes M (rules L) taking (written_takes L) braced_rule refl u ks ms s in
     let i : Attributes × UnattributedStatement = (a, u) in
-    statement_out L M (statement_behind a (u, span_between ks ms)) xs ms
+    statement_out L M (statement_after a (u, span_between ks ms)) xs ms
     (inr (
       statement a u,
       ap (placed_statement (statement a u)) (sym (attributes_begun L M a xs ks ms l w)),
@@ -144,11 +144,11 @@ braced_written L M a u xs ks ms l s =
 ended_written : (L : Dialect) (M : Mode) (a : Attributes) (u : UnattributedStatement) (xs ks ms : List Token)
     → Means M (Meant L M (WrittenPart L M)) (leading_list L) a xs ks
     → Means M (WrittenPart L M) ended_or_break_kinds u ks ms
-    → WrittenPart L M statement (statement_behind a (u, span_between ks ms)) xs ms
+    → WrittenPart L M statement (statement_after a (u, span_between ks ms)) xs ms
 ended_written L M a u xs ks ms l s =
     let w = part_takes M (rules L) taking (written_takes L) ended_or_break_kinds refl u ks ms s in
     let i : Attributes × UnattributedStatement = (a, u) in
-    statement_out L M (statement_behind a (u, span_between ks ms)) xs ms
+    statement_out L M (statement_after a (u, span_between ks ms)) xs ms
     (inr (
       statement a u,
       ap (placed_statement (statement a u)) (sym (written_begun L M a xs ks ms l w)),
@@ -267,9 +267,9 @@ loop_rest_out L M v xs ys (inr (inr d)) =
         (symbol (further braced_part)) ended_or_break (symbol (further loop_rest)) loop_other v xs ys
         → Meant L M (WrittenPart L M) (further loop_rest) v xs ys
     go _ _ _ (first_item a u r xs ks ms ys l s h) = inside_front L M (symbol continuing_statement)
-        (statement_behind a (u, span_between ks ms)) xs ms (braced_written L M a u xs ks ms l s) r ys h
+        (statement_after a (u, span_between ks ms)) xs ms (braced_written L M a u xs ks ms l s) r ys h
     go _ _ _ (second_item a u r xs ks ms ys l s h) = inside_front L M (symbol continuing_statement)
-        (statement_behind a (u, span_between ks ms)) xs ms (ended_written L M a u xs ks ms l s) r ys h
+        (statement_after a (u, span_between ks ms)) xs ms (ended_written L M a u xs ks ms l s) r ys h
     go _ _ _ (no_item a f xs ks ys l (c, q, (w, g, (ms, s, k)))) =
         let i : Attributes × (CompoundStatement × Option (Attributed BreakIfStatement)) = (a, w.0) in
         let d : WrittenPart L M continuing_statement (continuing_statement_of a w.0) xs ms =
@@ -313,21 +313,21 @@ two_tokens b t ks bs ms e f =
     ap (λ (z : List Token). span_between z ms) (e ∙ ap (λ (z : List Token). b ∷ z) f)
     ∙ span_append (b ∷ t ∷ []) ms
 
-abbrev break_behind : Attributes → Span → StatementNode
-break_behind a s = statement_behind a (UnattributedStatement.break_statement, s)
+abbrev break_after : Attributes → Span → StatementNode
+break_after a s = statement_after a (UnattributedStatement.break_statement, s)
 
 break_step : (L : Dialect) (M : Mode) (a : Attributes) (u : UnattributedStatement) (us ks ms ys : List Token)
     → Means M (Part M (factored L)) (leading_list L) a us ks
     → Means M (Part M (factored L)) break_part u ks ms
     → (r : Inside LastBreak) → Part M (factored L) (further continuing_rest) r ms ys → Part M (factored L)
-    (further continuing_rest) (statement_before (statement_behind a (u, span_between ks ms)) r) us ys
+    (further continuing_rest) (statement_before (statement_after a (u, span_between ks ms)) r) us ys
 break_step L M a u us ks ms ys l (w, f, (bs, (b, g, k1), k2)) r h =
     let i : Token × Inside LastBreak = (w.1, r) in
     let c : Token → Attributes → Inside LastBreak = λ b a. with_break i b a in
     let q : Token × (Token → Attributes → Inside LastBreak) = (b, c) in
-    let same : break_behind a (record { start = b.start; end = w.1.end }) ≡ statement_behind a (u, span_between ks ms) =
-    ap (break_behind a) (sym (two_tokens b w.1 ks bs ms k1.1 k2.1))
-    ∙ ap (λ (z : UnattributedStatement). statement_behind a (z, span_between ks ms)) (g ∙ f) in
+    let same : break_after a (record { start = b.start; end = w.1.end }) ≡ statement_after a (u, span_between ks ms) =
+    ap (break_after a) (sym (two_tokens b w.1 ks bs ms k1.1 k2.1))
+    ∙ ap (λ (z : UnattributedStatement). statement_after a (z, span_between ks ms)) (g ∙ f) in
     subst (λ (z : StatementNode). Part M (factored L) (further continuing_rest) (statement_before z r) us ys) same
     (continuing_items L M (with_break i b a) us ys
     (no_item a (with_break i b) us ks ys l (q, refl, (bs, k1, inl (i, refl, (ms, k2, h))))))
@@ -393,18 +393,18 @@ continuing_rest_out L M v xs ys (inr (inr d)) =
         (symbol (further ended_part)) (symbol (further continuing_rest)) continuing_other v xs ys
         → Meant L M (WrittenPart L M) (further continuing_rest) v xs ys
     go _ _ _ (first_item a u r xs ks ms ys l s h) = inside_front L M (break_if L)
-        (statement_behind a (u, span_between ks ms)) xs ms (braced_written L M a u xs ks ms l s) r ys h
+        (statement_after a (u, span_between ks ms)) xs ms (braced_written L M a u xs ks ms l s) r ys h
     go _ _ _ (second_item a u r xs ks ms ys l s h) = inside_front L M (break_if L)
-        (statement_behind a (u, span_between ks ms)) xs ms (ended_written L M a u xs ks ms l (inl s)) r ys h
+        (statement_after a (u, span_between ks ms)) xs ms (ended_written L M a u xs ks ms l (inl s)) r ys h
     go _ _ _ (no_item a f xs ks ys l (n, e, (es, k1, inl (i, g, (bs, k2, r))))) =
         let u : UnattributedStatement = UnattributedStatement.break_statement in
         let j : UnattributedStatement × Token = (u, i.0) in
         let d = ended_written L M a u xs ks bs l (inr (j, refl, (es, (n.0, refl, k1), k2))) in
         subst (λ (z : Inside LastBreak). Meant L M (WrittenPart L M) (further continuing_rest) z xs ys)
-        (ap (λ (z : Span). statement_before (break_behind a z) i.1) (two_tokens n.0 i.0 ks es bs k1.1 k2.1)
+        (ap (λ (z : Span). statement_before (break_after a z) i.1) (two_tokens n.0 i.0 ks es bs k1.1 k2.1)
         ∙ (ap (λ (c : Token → Attributes → Inside LastBreak). c n.0 a) g
         ∙ ap (λ (z : Attributes → Inside LastBreak). z a) e))
-        (inside_front L M (break_if L) (break_behind a (span_between ks bs)) xs bs d i.1 ys r)
+        (inside_front L M (break_if L) (break_after a (span_between ks bs)) xs bs d i.1 ys r)
     go _ _ _ (no_item a f xs ks ys l
         (n, e, (es, k1, inr (x, g, (m, g2, (bs, k2, (j, h, (ms, (i, h2, (cs, dx, k3)), k)))))))) =
         let r : Token × ExpressionNode = (m.0, i.0) in

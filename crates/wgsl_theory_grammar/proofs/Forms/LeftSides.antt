@@ -312,7 +312,7 @@ enclosed_out L M v xs ys (k, e, (ms, d, h)) =
     let p : Attributes × ExpressionNode = ([], k.0) in
     assigned_out L M p xs ms (inr (k.0, refl, d)) k.1 ys h (unattributed v) (ap unattributed e)
 
--- what stands behind attributes
+-- what is after attributes
 pub led_simple_out : (L : Dialect) (M : Mode) (v : Statement) (xs ys : List Token)
     → Means M (Meant L M (WrittenPart L M)) (leading_before L statement (symbol (further simple_part))) v xs ys
     → Means M (WrittenPart L M) written_simple v xs ys

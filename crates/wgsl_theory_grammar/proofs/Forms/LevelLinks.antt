@@ -88,7 +88,7 @@ pub read_component : (L : Dialect) (M : Mode) → AllTake (ReadPart L M componen
 read_component L M = all_take (ReadPart L M component)
     (takes_one M (factored L) never_empty (body_takes L) (of component) refl)
 
--- ---- singular expressions: components behind a primary expression
+-- ---- singular expressions: components after a primary expression
 pub singular_in : (L : Dialect) (M : Mode) (D : WrittenRelation) → AllPlaced (D primary_expression)
     → AllTake (D component) → (v : ExpressionNode) (xs ys : List Token)
     → Means M D (rules L singular_expression) v xs ys

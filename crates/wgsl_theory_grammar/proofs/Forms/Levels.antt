@@ -153,7 +153,7 @@ pub two_placed : (P : ExpressionRelation) (Q : ItemRelation) → AllPlaced P →
 two_placed P Q H E v xs ys (p, e, (ms, d, q)) = subst (λ (z : ExpressionNode). Placed z xs ys) e
     (binary_placed p.0 p.1 xs ms ys (H p.0 xs ms d) (E p.1 ms ys q))
 
--- ---- components behind a base
+-- ---- components after a base
 abbrev pub ComponentOf : Type 0
 ComponentOf = ExpressionNode → Expression
 

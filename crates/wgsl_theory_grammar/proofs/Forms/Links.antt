@@ -266,11 +266,11 @@ alike_in : (L : Dialect) (M : Mode) (n : Symbol) → Kept (Means M (Met L M) (fa
 alike_in L M n v xs ys d = roll M (factored L) (of n) v xs ys
     (means_mono M M (same_mode M) (Met L M) (Part M (factored L)) (met_in L M) (factored L (of n)) v xs ys d)
 
--- a rule of a part behind attributes, which may be left out in a dialect
-behind_in : (L : Dialect) (M : Mode) {A B : Type 0} (make : Attributes → A → B) (g : Rule A)
+-- a rule of a part after attributes, which may be left out in a dialect
+after_in : (L : Dialect) (M : Mode) {A B : Type 0} (make : Attributes → A → B) (g : Rule A)
     (h : FactoredRule A) → Kept (Means M (ReadPart L M) g) (Means M (Part M (factored L)) h)
     → Kept (Means M (ReadPart L M) (led L make g)) (Means M (Part M (factored L)) (leading_before L make h))
-behind_in L M make g h H = led_to L M (ReadPart L M) (Part M (factored L)) (read_list L M) make g h H
+after_in L M make g h H = led_to L M (ReadPart L M) (Part M (factored L)) (read_list L M) make g h H
 
 rule_in : (L : Dialect) (M : Mode) (n : Symbol) → Kept (Means M (ReadPart L M) (rules L n)) (ReadPart L M n)
 rule_in L M ident v xs ys d = alike_in L M ident v xs ys (lifted_in M (Met L M) (rules L ident) v xs ys d)
@@ -299,50 +299,50 @@ rule_in L M for_update v xs ys d = update_in L M v xs ys d
 rule_in L M global_declaration v xs ys d = declaration_in L M v xs ys d
 rule_in L M global_directive v xs ys d = directive_in L M v xs ys d
 rule_in L M return_statement v xs ys d = roll M (factored L) (of return_statement) v xs ys
-    (behind_in L M statement returning_rule (symbol (further returning_part))
+    (after_in L M statement returning_rule (symbol (further returning_part))
     (met_in L M (further returning_part)) v xs ys d)
 rule_in L M call_statement v xs ys d = roll M (factored L) (of call_statement) v xs ys
-    (behind_in L M statement (symbol call gives call_statement_of)
+    (after_in L M statement (symbol call gives call_statement_of)
     (symbol (of call) gives call_statement_of) (λ u us vs s. s) v xs ys d)
-rule_in L M var_statement v xs ys d = roll M (factored L) (of var_statement) v xs ys (behind_in L M
+rule_in L M var_statement v xs ys d = roll M (factored L) (of var_statement) v xs ys (after_in L M
     statement local_rule (symbol (further local_part)) (met_in L M (further local_part)) v xs ys d)
 rule_in L M value_statement v xs ys d = roll M (factored L) (of value_statement) v xs ys
-    (behind_in L M statement value_rule (symbol (further value_part)) (met_in L M (further value_part)) v xs ys d)
+    (after_in L M statement value_rule (symbol (further value_part)) (met_in L M (further value_part)) v xs ys d)
 rule_in L M break_statement v xs ys d = roll M (factored L) (of break_statement) v xs ys
-    (behind_in L M statement (KwBreak means UnattributedStatement.break_statement)
+    (after_in L M statement (KwBreak means UnattributedStatement.break_statement)
     (KwBreak means UnattributedStatement.break_statement) (λ u us vs s. s) v xs ys d)
 rule_in L M continue_statement v xs ys d = roll M (factored L) (of continue_statement) v xs ys
-    (behind_in L M statement (KwContinue means UnattributedStatement.continue_statement)
+    (after_in L M statement (KwContinue means UnattributedStatement.continue_statement)
     (KwContinue means UnattributedStatement.continue_statement) (λ u us vs s. s) v xs ys d)
 rule_in L M discard_statement v xs ys d = roll M (factored L) (of discard_statement) v xs ys
-    (behind_in L M statement (KwDiscard means UnattributedStatement.discard_statement)
+    (after_in L M statement (KwDiscard means UnattributedStatement.discard_statement)
     (KwDiscard means UnattributedStatement.discard_statement) (λ u us vs s. s) v xs ys d)
 rule_in L M phony_assignment v xs ys d = roll M (factored L) (of phony_assignment) v xs ys
-    (behind_in L M statement phony_kind (symbol (further phony_part)) (met_in L M (further phony_part)) v xs ys d)
+    (after_in L M statement phony_kind (symbol (further phony_part)) (met_in L M (further phony_part)) v xs ys d)
 rule_in L M const_assert v xs ys d = roll M (factored L) (of const_assert) v xs ys
-    (behind_in L M with_attributes assert_rule (symbol (further assert_part))
+    (after_in L M with_attributes assert_rule (symbol (further assert_part))
     (met_in L M (further assert_part)) v xs ys d)
-rule_in L M switch_clause v xs ys d = roll M (factored L) (of switch_clause) v xs ys (behind_in L M
+rule_in L M switch_clause v xs ys d = roll M (factored L) (of switch_clause) v xs ys (after_in L M
     clause_of clause_rule (symbol (further clause_part)) (met_in L M (further clause_part)) v xs ys d)
 rule_in L M continuing_statement v xs ys d = roll M (factored L) (of continuing_statement) v xs ys
-    (behind_in L M continuing_statement_of (continuing_rule L) (symbol (further continuing_part))
+    (after_in L M continuing_statement_of (continuing_rule L) (symbol (further continuing_part))
     (met_in L M (further continuing_part)) v xs ys d)
 rule_in L M const_declaration v xs ys d = roll M (factored L) (of const_declaration) v xs ys
-    (behind_in L M with_attributes const_rule (symbol (further const_part))
+    (after_in L M with_attributes const_rule (symbol (further const_part))
     (met_in L M (further const_part)) v xs ys d)
 rule_in L M alias_declaration v xs ys d = roll M (factored L) (of alias_declaration) v xs ys
-    (behind_in L M with_attributes alias_rule (symbol (further alias_part)) (met_in L M (further alias_part)) v xs ys d)
+    (after_in L M with_attributes alias_rule (symbol (further alias_part)) (met_in L M (further alias_part)) v xs ys d)
 rule_in L M struct_declaration v xs ys d = roll M (factored L) (of struct_declaration) v xs ys
-    (behind_in L M with_attributes struct_rule (symbol (further struct_part))
+    (after_in L M with_attributes struct_rule (symbol (further struct_part))
     (met_in L M (further struct_part)) v xs ys d)
 rule_in L M enable_directive v xs ys d = roll M (factored L) (of enable_directive) v xs ys
-    (behind_in L M with_attributes enable_rule (symbol (further enable_part))
+    (after_in L M with_attributes enable_rule (symbol (further enable_part))
     (met_in L M (further enable_part)) v xs ys d)
 rule_in L M requires_directive v xs ys d = roll M (factored L) (of requires_directive) v xs ys
-    (behind_in L M with_attributes requires_rule (symbol (further requires_part))
+    (after_in L M with_attributes requires_rule (symbol (further requires_part))
     (met_in L M (further requires_part)) v xs ys d)
 rule_in L M diagnostic_directive v xs ys d = roll M (factored L) (of diagnostic_directive) v xs ys
-    (behind_in L M with_attributes diagnostic_rule (symbol (further diagnostic_part))
+    (after_in L M with_attributes diagnostic_rule (symbol (further diagnostic_part))
     (met_in L M (further diagnostic_part)) v xs ys d)
 rule_in L M n v xs ys d = alike_in L M n v xs ys d
 
@@ -351,10 +351,10 @@ pub written_is_factored : (L : Dialect) (M : Mode) (n : Symbol) → Kept (Part M
 written_is_factored L M = least M (rules L) (ReadPart L M) (rule_in L M)
 
 -- ---- and back
-behind_out : (L : Dialect) (M : Mode) {A B : Type 0} (make : Attributes → A → B) (g : Rule A) (h : FactoredRule A)
+after_out : (L : Dialect) (M : Mode) {A B : Type 0} (make : Attributes → A → B) (g : Rule A) (h : FactoredRule A)
     → Kept (Means M (Meant L M (WrittenPart L M)) h) (Means M (WrittenPart L M) g)
     → Kept (Means M (Meant L M (WrittenPart L M)) (leading_before L make h)) (Means M (WrittenPart L M) (led L make g))
-behind_out L M make g h H = led_from L M (WrittenPart L M) (Meant L M (WrittenPart L M)) (meant_list L M) make g h H
+after_out L M make g h H = led_from L M (WrittenPart L M) (Meant L M (WrittenPart L M)) (meant_list L M) make g h H
 
 rule_out : (L : Dialect) (M : Mode) (n : FactoredSymbol)
     → Kept (Means M (Meant L M (WrittenPart L M)) (factored L n)) (Meant L M (WrittenPart L M) n)
@@ -420,44 +420,44 @@ rule_out L M (of increment) v xs ys d = roll M (rules L) increment v xs ys
 rule_out L M (of decrement) v xs ys d = roll M (rules L) decrement v xs ys
     (lifted_out M (Meant L M (WrittenPart L M)) (rules L decrement) v xs ys d)
 rule_out L M (of return_statement) v xs ys d = roll M (rules L) return_statement v xs ys
-    (behind_out L M statement returning_rule (symbol (further returning_part)) (λ u us vs s. s) v xs ys d)
+    (after_out L M statement returning_rule (symbol (further returning_part)) (λ u us vs s. s) v xs ys d)
 rule_out L M (of call_statement) v xs ys d = roll M (rules L) call_statement v xs ys
-    (behind_out L M statement (symbol call gives call_statement_of)
+    (after_out L M statement (symbol call gives call_statement_of)
     (symbol (of call) gives call_statement_of) (λ u us vs s. s) v xs ys d)
 rule_out L M (of var_statement) v xs ys d = roll M (rules L) var_statement v xs ys
-    (behind_out L M statement local_rule (symbol (further local_part)) (λ u us vs s. s) v xs ys d)
+    (after_out L M statement local_rule (symbol (further local_part)) (λ u us vs s. s) v xs ys d)
 rule_out L M (of value_statement) v xs ys d = roll M (rules L) value_statement v xs ys
-    (behind_out L M statement value_rule (symbol (further value_part)) (λ u us vs s. s) v xs ys d)
+    (after_out L M statement value_rule (symbol (further value_part)) (λ u us vs s. s) v xs ys d)
 rule_out L M (of break_statement) v xs ys d = roll M (rules L) break_statement v xs ys
-    (behind_out L M statement (KwBreak means UnattributedStatement.break_statement)
+    (after_out L M statement (KwBreak means UnattributedStatement.break_statement)
     (KwBreak means UnattributedStatement.break_statement) (λ u us vs s. s) v xs ys d)
 rule_out L M (of continue_statement) v xs ys d = roll M (rules L) continue_statement v xs ys
-    (behind_out L M statement (KwContinue means UnattributedStatement.continue_statement)
+    (after_out L M statement (KwContinue means UnattributedStatement.continue_statement)
     (KwContinue means UnattributedStatement.continue_statement) (λ u us vs s. s) v xs ys d)
 rule_out L M (of discard_statement) v xs ys d = roll M (rules L) discard_statement v xs ys
-    (behind_out L M statement (KwDiscard means UnattributedStatement.discard_statement)
+    (after_out L M statement (KwDiscard means UnattributedStatement.discard_statement)
     (KwDiscard means UnattributedStatement.discard_statement) (λ u us vs s. s) v xs ys d)
 rule_out L M (of phony_assignment) v xs ys d = roll M (rules L) phony_assignment v xs ys
-    (behind_out L M statement phony_kind (symbol (further phony_part)) (λ u us vs s. s) v xs ys d)
+    (after_out L M statement phony_kind (symbol (further phony_part)) (λ u us vs s. s) v xs ys d)
 rule_out L M (of const_assert) v xs ys d = roll M (rules L) const_assert v xs ys
-    (behind_out L M with_attributes assert_rule (symbol (further assert_part)) (λ u us vs s. s) v xs ys d)
+    (after_out L M with_attributes assert_rule (symbol (further assert_part)) (λ u us vs s. s) v xs ys d)
 rule_out L M (of switch_clause) v xs ys d = roll M (rules L) switch_clause v xs ys
-    (behind_out L M clause_of clause_rule (symbol (further clause_part)) (λ u us vs s. s) v xs ys d)
+    (after_out L M clause_of clause_rule (symbol (further clause_part)) (λ u us vs s. s) v xs ys d)
 rule_out L M (of continuing_statement) v xs ys d = roll M (rules L) continuing_statement v xs ys
-    (behind_out L M continuing_statement_of (continuing_rule L) (symbol (further continuing_part))
+    (after_out L M continuing_statement_of (continuing_rule L) (symbol (further continuing_part))
     (λ u us vs s. s) v xs ys d)
 rule_out L M (of const_declaration) v xs ys d = roll M (rules L) const_declaration v xs ys
-    (behind_out L M with_attributes const_rule (symbol (further const_part)) (λ u us vs s. s) v xs ys d)
+    (after_out L M with_attributes const_rule (symbol (further const_part)) (λ u us vs s. s) v xs ys d)
 rule_out L M (of alias_declaration) v xs ys d = roll M (rules L) alias_declaration v xs ys
-    (behind_out L M with_attributes alias_rule (symbol (further alias_part)) (λ u us vs s. s) v xs ys d)
+    (after_out L M with_attributes alias_rule (symbol (further alias_part)) (λ u us vs s. s) v xs ys d)
 rule_out L M (of struct_declaration) v xs ys d = roll M (rules L) struct_declaration v xs ys
-    (behind_out L M with_attributes struct_rule (symbol (further struct_part)) (λ u us vs s. s) v xs ys d)
+    (after_out L M with_attributes struct_rule (symbol (further struct_part)) (λ u us vs s. s) v xs ys d)
 rule_out L M (of enable_directive) v xs ys d = roll M (rules L) enable_directive v xs ys
-    (behind_out L M with_attributes enable_rule (symbol (further enable_part)) (λ u us vs s. s) v xs ys d)
+    (after_out L M with_attributes enable_rule (symbol (further enable_part)) (λ u us vs s. s) v xs ys d)
 rule_out L M (of requires_directive) v xs ys d = roll M (rules L) requires_directive v xs ys
-    (behind_out L M with_attributes requires_rule (symbol (further requires_part)) (λ u us vs s. s) v xs ys d)
+    (after_out L M with_attributes requires_rule (symbol (further requires_part)) (λ u us vs s. s) v xs ys d)
 rule_out L M (of diagnostic_directive) v xs ys d = roll M (rules L) diagnostic_directive v xs ys
-    (behind_out L M with_attributes diagnostic_rule (symbol (further diagnostic_part)) (λ u us vs s. s) v xs ys d)
+    (after_out L M with_attributes diagnostic_rule (symbol (further diagnostic_part)) (λ u us vs s. s) v xs ys d)
 rule_out L M (of additive_expression) v xs ys d = roll M (rules L) additive_expression v xs ys
     (lifted_out M (Meant L M (WrittenPart L M)) (rules L additive_expression) v xs ys d)
 rule_out L M (of expressions) v xs ys d = roll M (rules L) expressions v xs ys

@@ -281,7 +281,7 @@ several_shrinks L M D c o P H =
 abbrev ExpressionRest : Dialect → Mode → WrittenRelation → GrowthRelation
 ExpressionRest L M D f xs ys = Means M D (expression_growth L) f xs ys
 
--- `&&` and `||` behind a relational_expression, or nothing
+-- `&&` and `||` after a relational_expression, or nothing
 abbrev Last : Dialect → Mode → WrittenRelation → GrowthRelation
 Last L M D f xs ys = SeveralRest L M D SymAndAnd short_circuit_and (D relational_expression) f xs ys
     ⊎ (SeveralRest L M D SymOrOr short_circuit_or (D relational_expression) f xs ys ⊎ Same f xs ys)

@@ -14,47 +14,47 @@ use Rattle.wgsl_theory_grammar.proofs.Forms.AttributeLinks.{leading_from, meant_
 use Rattle.wgsl_theory_grammar.proofs.Forms.LevelLinks.{ReadPart, WrittenPart}
 use Rattle.wgsl_theory_grammar.proofs.Forms.Shifts.{Meant}
 use Rattle.wgsl_theory_grammar.proofs.Forms.StatementPlaces.{braced_for, braced_if, braced_loop, braced_switch, braced_while, ended_break, ended_continue, ended_discard, ended_local, ended_returning, ended_value, placed_break, placed_continue, placed_discard, placed_for, placed_if, placed_loop, placed_return, placed_switch, placed_value, placed_var, placed_while}
-use Rattle.wgsl_theory_grammar.proofs.Forms.StatementSteps.{behind_in, block_out, braced_in, closed_in, compound_in, const_assert_in, ended_assert_out, ended_or_break, ended_simple_out, placed_simple_in, semicolon_in}
+use Rattle.wgsl_theory_grammar.proofs.Forms.StatementSteps.{after_in, block_out, braced_in, closed_in, compound_in, const_assert_in, ended_assert_out, ended_or_break, ended_simple_out, placed_simple_in, semicolon_in}
 use Rattle.wgsl_theory_grammar.specs.Factored.{FactoredSymbol.further, FactoredSymbol.of, Further.braced_part, Further.for_part, Further.if_part, Further.local_part, Further.loop_part, Further.returning_part, Further.switch_part, Further.value_part, Further.while_part, attributes_before, factored, leading_before}
 
 pub statement_in : (L : Dialect) (M : Mode) (v : StatementNode) (xs ys : List Token)
     → Means M (ReadPart L M) (rules L statement) v xs ys → Part M (factored L) (of statement) v xs ys
 statement_in L M v xs ys (n, e, inl d) = semicolon_in L M v n xs ys e d
-statement_in L M v xs ys (n, e, inr (inl ((q, f, (ms, d, k))))) = behind_in L M v n xs ys e
+statement_in L M v xs ys (n, e, inr (inl ((q, f, (ms, d, k))))) = after_in L M v n xs ys e
     (closed_in L M (symbol (further returning_part)) (ended_returning L M) n q xs ms ys f
     (unroll M (factored L) (of return_statement) q.0 xs ms d) k)
-statement_in L M v xs ys (n, e, inr (inr (inl d))) = behind_in L M v n xs ys e (braced_in L M
+statement_in L M v xs ys (n, e, inr (inr (inl d))) = after_in L M v n xs ys e (braced_in L M
     (symbol (further if_part)) (braced_if L M) n xs ys (unroll M (factored L) (of if_statement) n xs ys d))
-statement_in L M v xs ys (n, e, inr (inr (inr (inl d)))) = behind_in L M v n xs ys e
+statement_in L M v xs ys (n, e, inr (inr (inr (inl d)))) = after_in L M v n xs ys e
     (braced_in L M (symbol (further switch_part)) (braced_switch L M) n xs ys
     (unroll M (factored L) (of switch_statement) n xs ys d))
-statement_in L M v xs ys (n, e, inr (inr (inr (inr (inl d))))) = behind_in L M v n xs ys e
+statement_in L M v xs ys (n, e, inr (inr (inr (inr (inl d))))) = after_in L M v n xs ys e
     (braced_in L M (symbol (further loop_part)) (braced_loop L M) n xs ys
     (unroll M (factored L) (of loop_statement) n xs ys d))
-statement_in L M v xs ys (n, e, inr (inr (inr (inr (inr (inl d)))))) = behind_in L M v n xs ys e
+statement_in L M v xs ys (n, e, inr (inr (inr (inr (inr (inl d)))))) = after_in L M v n xs ys e
     (braced_in L M (symbol (further for_part)) (braced_for L M) n xs ys
     (unroll M (factored L) (of for_statement) n xs ys d))
 statement_in L M v xs ys (n, e, inr (inr (inr (inr (inr (inr (inl d))))))) =
-    behind_in L M v n xs ys e (braced_in L M (symbol (further while_part))
-    (braced_while L M) n xs ys (unroll M (factored L) (of while_statement) n xs ys d))
+    after_in L M v n xs ys e (braced_in L M (symbol (further while_part)) (braced_while L M) n xs ys
+    (unroll M (factored L) (of while_statement) n xs ys d))
 statement_in L M v xs ys (n, e, inr (inr (inr (inr (inr (inr (inr (inl ((q, f, (ms, d, k))))))))))) =
     placed_simple_in L M v n q xs ms ys e f (inr (inr (inr (inr d)))) k
 statement_in L M v xs ys (n, e, inr (inr (inr (inr (inr (inr (inr (inr (inl ((q, f, (ms, d, k)))))))))))) =
-    behind_in L M v n xs ys e (closed_in L M (symbol (further local_part))
+    after_in L M v n xs ys e (closed_in L M (symbol (further local_part))
     (ended_local L M) n q xs ms ys f (unroll M (factored L) (of var_statement) q.0 xs ms d) k)
 statement_in L M v xs ys (n, e, inr (inr (inr (inr (inr (inr (inr (inr (inr (inl ((q, f, (ms, d, k))))))))))))) =
-    behind_in L M v n xs ys e (closed_in L M (symbol (further value_part))
+    after_in L M v n xs ys e (closed_in L M (symbol (further value_part))
     (ended_value L M) n q xs ms ys f (unroll M (factored L) (of value_statement) q.0 xs ms d) k)
 statement_in L M v xs ys (n, e, inr (inr (inr (inr (inr (inr (inr (inr (inr (inr (inl ((q, f, (ms, d, k)))))))))))))) =
-    behind_in L M v n xs ys e (closed_in L M (KwBreak means UnattributedStatement.break_statement)
+    after_in L M v n xs ys e (closed_in L M (KwBreak means UnattributedStatement.break_statement)
     (ended_break L M) n q xs ms ys f (unroll M (factored L) (of break_statement) q.0 xs ms d) k)
 statement_in L M v xs ys
     (n, e, inr (inr (inr (inr (inr (inr (inr (inr (inr (inr (inr (inl ((q, f, (ms, d, k))))))))))))))) =
-    behind_in L M v n xs ys e (closed_in L M (KwContinue means UnattributedStatement.continue_statement)
+    after_in L M v n xs ys e (closed_in L M (KwContinue means UnattributedStatement.continue_statement)
     (ended_continue L M) n q xs ms ys f (unroll M (factored L) (of continue_statement) q.0 xs ms d) k)
 statement_in L M v xs ys
     (n, e, inr (inr (inr (inr (inr (inr (inr (inr (inr (inr (inr (inr (inl ((q, f, (ms, d, k)))))))))))))))) =
-    behind_in L M v n xs ys e (closed_in L M (KwDiscard means UnattributedStatement.discard_statement)
+    after_in L M v n xs ys e (closed_in L M (KwDiscard means UnattributedStatement.discard_statement)
     (ended_discard L M) n q xs ms ys f (unroll M (factored L) (of discard_statement) q.0 xs ms d) k)
 statement_in L M v xs ys
     (n, e, inr (inr (inr (inr (inr (inr (inr (inr (inr (inr (inr (inr (inr (inl ((q, f, (ms, d, k))))))))))))))))) =

@@ -36,26 +36,26 @@ statement_out L M v xs ys (inr (n, e, d)) = go (either_of L M
 abbrev init_kinds : FactoredRule UnattributedStatement
 init_kinds = symbol (further local_part) or symbol (further value_part) or symbol (further simple_part)
 
-init_behind : (L : Dialect) (M : Mode) (v : StatementNode) (n : Statement)
+init_after : (L : Dialect) (M : Mode) (v : StatementNode) (n : Statement)
     (h : FactoredRule UnattributedStatement) (xs ys : List Token)
     → placed_statement n (span_between xs ys) ≡ v
     → Kept (Means M (Part M (factored L)) h) (Means M (Part M (factored L)) init_kinds)
     → Means M (Part M (factored L)) (leading_before L statement h) n xs ys
     → Part M (factored L) (of for_init) v xs ys
-init_behind L M v n h xs ys e H d = roll M (factored L) (of for_init) v xs ys
+init_after L M v n h xs ys e H d = roll M (factored L) (of for_init) v xs ys
     (n, e, inr (leading_kept L M (Part M (factored L)) statement h init_kinds H n xs ys d))
 
 pub init_in : (L : Dialect) (M : Mode) (v : StatementNode) (xs ys : List Token)
     → Means M (ReadPart L M) (rules L for_init) v xs ys → Part M (factored L) (of for_init) v xs ys
-init_in L M v xs ys (n, e, inl d) = init_behind L M v n (symbol (further local_part)) xs ys e
+init_in L M v xs ys (n, e, inl d) = init_after L M v n (symbol (further local_part)) xs ys e
     (λ u us vs s. inl s) (unroll M (factored L) (of var_statement) n xs ys d)
-init_in L M v xs ys (n, e, inr (inl d)) = init_behind L M v n (symbol (further value_part)) xs ys e
+init_in L M v xs ys (n, e, inr (inl d)) = init_after L M v n (symbol (further value_part)) xs ys e
     (λ u us vs s. inr (inl s)) (unroll M (factored L) (of value_statement) n xs ys d)
 init_in L M v xs ys (n, e, inr (inr d)) = go (simple_in L M n xs ys d)
   where
     go : Means M (Part M (factored L)) (read_simple L) n xs ys → Part M (factored L) (of for_init) v xs ys
     go (inl s) = roll M (factored L) (of for_init) v xs ys (n, e, inl s)
-    go (inr s) = init_behind L M v n (symbol (further simple_part)) xs ys e (λ u us vs s. inr (inr s)) s
+    go (inr s) = init_after L M v n (symbol (further simple_part)) xs ys e (λ u us vs s. inr (inr s)) s
 
 pub init_out : (L : Dialect) (M : Mode) (v : StatementNode) (xs ys : List Token)
     → Means M (Meant L M (WrittenPart L M)) (factored L (of for_init)) v xs ys

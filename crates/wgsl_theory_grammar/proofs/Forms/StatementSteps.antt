@@ -1,4 +1,4 @@
--- Steps between the two forms of statements: what is behind attributes, and what has a case of its
+-- Steps between the two forms of statements: what is after attributes, and what has a case of its
 -- own in one of the forms.
 use Rattle.std.proofs.Common.{◌≡◌, List, inl, inr, refl, ap, subst, ◌∙◌}
 use Rattle.grammar.specs.Tokens.{Token, span_between}
@@ -12,7 +12,7 @@ use Rattle.wgsl_model.specs.Trees.Statements.{StatementNode, Statement, statemen
 use Rattle.wgsl_model.specs.Grammar.StatementParts.{placed_statement, leading}
 use Rattle.wgsl_model.specs.Grammar.Symbols.{Dialect, Symbol.compound_statement, Symbol.statement, Symbol.const_assert}
 use Rattle.wgsl_model.specs.Grammar.Written.{rules}
-use Rattle.wgsl_theory_grammar.specs.Factored.{Further.block_part, Further.braced_part, Further.simple_part, Further.ended_part, Further.assert_part, Further.plain_statement, FactoredSymbol.of, FactoredSymbol.further, FactoredRule, attributes_before, leading_before, leading_list, Further.attribute_list, either_behind, break_part, factored}
+use Rattle.wgsl_theory_grammar.specs.Factored.{Further.block_part, Further.braced_part, Further.simple_part, Further.ended_part, Further.assert_part, Further.plain_statement, FactoredSymbol.of, FactoredSymbol.further, FactoredRule, attributes_before, leading_before, leading_list, Further.attribute_list, either_after, break_part, factored}
 use Rattle.wgsl_theory_grammar.proofs.Forms.ListLinks.{IsToken}
 use Rattle.wgsl_theory_grammar.proofs.Forms.AttributeLinks.{meant_list, leading_from, leading_kept, leading_closed, attributes_kept, either_first, either_second}
 use Rattle.wgsl_theory_grammar.proofs.Forms.Shifts.{Meant}
@@ -20,25 +20,25 @@ use Rattle.wgsl_theory_grammar.proofs.Forms.LevelLinks.{WrittenPart, ReadPart}
 use Rattle.wgsl_theory_grammar.proofs.Forms.LeftSides.{written_simple, read_simple, simple_in, led_simple_out}
 use Rattle.wgsl_theory_grammar.proofs.Forms.StatementPlaces.{placed_assignment, placed_phony_assignment, placed_increment, placed_decrement, placed_call, placed_compound, placed_const_assert, braced_block, ended_simple, ended_assert}
 
--- what stands behind the attributes of a statement, as it is read
+-- what is after the attributes of a statement, as it is read
 abbrev pub ended_or_break : FactoredRule UnattributedStatement
 ended_or_break = symbol (further ended_part) or break_part
 
 -- a statement without its place, save one that never has attributes
-abbrev pub Behind : Dialect → Mode → Statement → List Token → List Token → Type 0
-Behind L M n xs ys = Means M (Part M (factored L))
-    (either_behind L statement (symbol (further braced_part)) ended_or_break) n xs ys
+abbrev pub After : Dialect → Mode → Statement → List Token → List Token → Type 0
+After L M n xs ys = Means M (Part M (factored L))
+    (either_after L statement (symbol (further braced_part)) ended_or_break) n xs ys
 
-pub behind_in : (L : Dialect) (M : Mode) (v : StatementNode) (n : Statement) (xs ys : List Token)
-    → placed_statement n (span_between xs ys) ≡ v → Behind L M n xs ys
+pub after_in : (L : Dialect) (M : Mode) (v : StatementNode) (n : Statement) (xs ys : List Token)
+    → placed_statement n (span_between xs ys) ≡ v → After L M n xs ys
     → Part M (factored L) (of statement) v xs ys
-behind_in L M v n xs ys e d = roll M (factored L) (of statement) v xs ys (inr (n, e, d))
+after_in L M v n xs ys e d = roll M (factored L) (of statement) v xs ys (inr (n, e, d))
 
 -- of a kind that ends with a block
 pub braced_in : (L : Dialect) (M : Mode) (h : FactoredRule UnattributedStatement)
     → Kept (Means M (Part M (factored L)) h) (Part M (factored L) (further braced_part))
     → (n : Statement) (xs ys : List Token)
-    → Means M (Part M (factored L)) (attributes_before statement h) n xs ys → Behind L M n xs ys
+    → Means M (Part M (factored L)) (attributes_before statement h) n xs ys → After L M n xs ys
 braced_in L M h H n xs ys d =
     either_first L M (Part M (factored L)) statement (symbol (further braced_part)) ended_or_break n xs ys
     (attributes_kept M (Part M (factored L)) statement h (symbol (further braced_part)) H n xs ys d)
@@ -48,9 +48,9 @@ pub closed_in : (L : Dialect) (M : Mode) (h : FactoredRule UnattributedStatement
     → Kept (Means M (Part M (factored L)) (h ◃ SymSemicolon)) (Means M (Part M (factored L)) ended_or_break)
     → (n : Statement) (q : Statement × Token) (xs ms ys : List Token)
     → q.0 ≡ n → Means M (Part M (factored L)) (leading_before L statement h) q.0 xs ms
-    → IsToken SymSemicolon q.1 ms ys → Behind L M n xs ys
+    → IsToken SymSemicolon q.1 ms ys → After L M n xs ys
 closed_in L M h H n q xs ms ys e d k =
-    subst (λ (z : Statement). Behind L M z xs ys) e
+    subst (λ (z : Statement). After L M z xs ys) e
     (either_second L M (Part M (factored L)) statement (symbol (further braced_part)) ended_or_break q.0 xs ys
     (leading_kept L M (Part M (factored L)) statement (h ◃ SymSemicolon) ended_or_break H q.0 xs ys
     (leading_closed L M (Part M (factored L)) statement h SymSemicolon q.1 q.0 xs ms ys d k)))
@@ -68,13 +68,13 @@ placed_simple_in L M v n q xs ms ys e f d k = go (simple_in L M q.0 xs ms d)
         roll M (factored L) (of statement) v xs ys
         (inl (roll M (factored L) (further plain_statement) v xs ys (n, e, inr (u, r ∙ f, (i, refl, (ms, s, k))))))
     go (inr s) =
-        behind_in L M v n xs ys e
+        after_in L M v n xs ys e
         (closed_in L M (symbol (further simple_part)) (ended_simple L M) n q xs ms ys f s k)
 
 asserted_in : (L : Dialect) (M : Mode) (n : Statement) (a : Attributed ConstAssert)
     (q : Attributed ConstAssert × Token) (xs ms ys : List Token) → assert_statement a ≡ n → q.0 ≡ a
     → Means M (Part M (factored L)) (leading_before L with_attributes (symbol (further assert_part))) q.0 xs ms
-    → IsToken SymSemicolon q.1 ms ys → Behind L M n xs ys
+    → IsToken SymSemicolon q.1 ms ys → After L M n xs ys
 asserted_in L M n a q xs ms ys e f (p, g, (ks, d, s)) k =
     let u : UnattributedStatement = UnattributedStatement.const_assert p.1 in
     let i : Statement × Token = (statement p.0 u, q.1) in
@@ -98,7 +98,7 @@ pub compound_in : (L : Dialect) (M : Mode) (v : StatementNode) (n : Statement) (
 compound_in L M v n xs ys e (c, q, d) =
     let u = unroll M (factored L) (of compound_statement) c xs ys d in
     let k : Attributes × UnattributedStatement = (u.0.0, UnattributedStatement.compound (statements_of u.0.1)) in
-    behind_in L M v n xs ys e (braced_in L M (symbol (further block_part)) (braced_block L M) n xs ys (
+    after_in L M v n xs ys e (braced_in L M (symbol (further block_part)) (braced_block L M) n xs ys (
       k,
       ap block_statement u.1 ∙ q,
       (u.2.0, u.2.1, roll M (factored L) (further block_part) k.1 u.2.0 ys (u.0.1, refl, u.2.2)),
@@ -108,7 +108,7 @@ pub const_assert_in : (L : Dialect) (M : Mode) (v : StatementNode) (n : Statemen
     → placed_statement n (span_between xs ys) ≡ v
     → Means M (ReadPart L M) (symbol const_assert ◃ SymSemicolon gives assert_statement) n xs ys
     → Part M (factored L) (of statement) v xs ys
-const_assert_in L M v n xs ys e (a, q, (i, f, (ms, d, k))) = behind_in L M v n xs ys e
+const_assert_in L M v n xs ys e (a, q, (i, f, (ms, d, k))) = after_in L M v n xs ys e
     (asserted_in L M n a i xs ms ys q f (unroll M (factored L) (of const_assert) i.0 xs ms d) k)
 
 -- ---- and back
@@ -136,7 +136,7 @@ block_out L M v n xs ys e p q ks a (b, r, d) =
     (rules L) compound_statement (compound_of p.0 b) xs ys (i, refl, (ks, a, d)) in
     placed_compound L M v n xs ys e (compound_of p.0 b, ap (statement p.0) r ∙ q, c)
 
--- a call, assignment, increment or decrement behind attributes, and `const_assert`
+-- a call, assignment, increment or decrement after attributes, and `const_assert`
 pub ended_simple_out : (L : Dialect) (M : Mode) (v : StatementNode) (n : Statement) (xs ys : List Token)
     → placed_statement n (span_between xs ys) ≡ v
     → (a : Attributes) (w : UnattributedStatement × Token) → statement a w.0 ≡ n → (ks ms : List Token)

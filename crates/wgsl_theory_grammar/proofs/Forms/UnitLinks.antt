@@ -13,7 +13,7 @@ use Rattle.wgsl_model.specs.Grammar.StatementParts.{leading}
 use Rattle.wgsl_model.specs.Grammar.UnitParts.{assert_declaration}
 use Rattle.wgsl_model.specs.Grammar.Symbols.{Dialect, Symbol.const_assert, Symbol.global_declaration, Symbol.var_declaration, Symbol.const_declaration, Symbol.override_declaration, Symbol.alias_declaration, Symbol.struct_declaration, Symbol.function_declaration, Symbol.global_directive, Symbol.enable_directive, Symbol.requires_directive, Symbol.diagnostic_directive}
 use Rattle.wgsl_model.specs.Grammar.Written.{rules}
-use Rattle.wgsl_theory_grammar.specs.Factored.{Further.var_part, Further.override_part, Further.function_part, Further.const_part, Further.alias_part, Further.struct_part, Further.enable_part, Further.requires_part, Further.diagnostic_part, Further.attributed_part, Further.led_part, Further.directive_part, Further.declaration_list, Further.front, FactoredSymbol.of, FactoredSymbol.further, FactoredRule, attributes_before, leading_before, begun_by, declaration_behind, declaration_first, directive_first, factored}
+use Rattle.wgsl_theory_grammar.specs.Factored.{Further.var_part, Further.override_part, Further.function_part, Further.const_part, Further.alias_part, Further.struct_part, Further.enable_part, Further.requires_part, Further.diagnostic_part, Further.attributed_part, Further.led_part, Further.directive_part, Further.declaration_list, Further.front, FactoredSymbol.of, FactoredSymbol.further, FactoredRule, attributes_before, leading_before, begun_by, declaration_after, declaration_first, directive_first, factored}
 use Rattle.wgsl_theory_grammar.specs.MeaningRules.{attributed_rule, led_rule}
 use Rattle.wgsl_theory_grammar.proofs.Forms.ListLinks.{many_back, many_front, many_none}
 use Rattle.wgsl_theory_grammar.proofs.Forms.Taking.{part_takes}
@@ -227,17 +227,17 @@ declaration_before L M x xs ms ys d ds r = go (unroll M (factored L) (of global_
         (ap (λ (z : Span). spanned (made p) z) b
         ∙ (ap (λ (z : GlobalDeclaration). spanned z (span_between xs ms)) q ∙ e)) h
 
-    behind : (n : GlobalDeclaration) → spanned n (span_between xs ms) ≡ x
+    following : (n : GlobalDeclaration) → spanned n (span_between xs ms) ≡ x
         → Means M (Part M (factored L)) (attributes_before with_attributes (symbol (further attributed_part))) n xs ms
         ⊎ Means M (Part M (factored L)) (leading_before L with_attributes (symbol (further led_part))) n xs ms
         → Part M (factored L) (further front) (no_directives (x ∷ ds)) xs ys
-    behind n e (inl (p, q, (ks, l, s))) =
+    following n e (inl (p, q, (ks, l, s))) =
         let w = part_takes M (factored L) never_empty (body_takes L)
         (symbol (further attributed_part)) refl p.1 ks ms s in
         placed p n ks (list_begun L M p.0 xs ks ms l w) q e
         (front_items L M (declaration_first ((p.1, span_between ks ms), ds) p.0) xs ys
         (first_item p.0 p.1 ds xs ks ms ys l s r))
-    behind n e (inr (p, q, (ks, l, s))) =
+    following n e (inr (p, q, (ks, l, s))) =
         let w = part_takes M (factored L) never_empty (body_takes L) (symbol (further led_part)) refl p.1 ks ms s in
         placed p n ks (read_begun L M p.0 xs ks ms l w) q e
         (front_items L M (declaration_first ((p.1, span_between ks ms), ds) p.0) xs ys
@@ -248,7 +248,7 @@ declaration_before L M x xs ms ys d ds r = go (unroll M (factored L) (of global_
     go (inl s) =
         let i : Spanned GlobalDeclaration × Declarations = (x, ds) in roll M (factored L)
         (further front) (no_directives (x ∷ ds)) xs ys (inl (i, refl, (ms, s, r)))
-    go (inr (n, e, s)) = behind n e (either_of L M (Part M (factored L)) with_attributes
+    go (inr (n, e, s)) = following n e (either_of L M (Part M (factored L)) with_attributes
         (symbol (further attributed_part)) (symbol (further led_part)) n xs ms s)
 
 -- declarations alone, and as all that is left of a unit
@@ -332,15 +332,15 @@ front_out L M v xs ys (inr (inl d)) = go v xs ys
     go _ _ _ (first_item a u r xs ks ms ys l s h) =
         let w = part_takes M (rules L) taking (written_takes L) attributed_rule refl u ks ms s in
         let i : Attributes × UnattributedDeclaration = (a, u) in
-        declaration_front L M (declaration_behind a (u, span_between ks ms)) xs ms ys
-        (attributed_out L M (declaration_behind a (u, span_between ks ms))
+        declaration_front L M (declaration_after a (u, span_between ks ms)) xs ms ys
+        (attributed_out L M (declaration_after a (u, span_between ks ms))
         (with_attributes a u) xs ms (ap (λ (z : Span). spanned (with_attributes a u) z)
         (sym (attributes_begun L M a xs ks ms l w))) (i, refl, (ks, l, s))) r h
     go _ _ _ (second_item a u r xs ks ms ys l s h) =
         let w = part_takes M (rules L) taking (written_takes L) led_rule refl u ks ms s in
         let i : Attributes × UnattributedDeclaration = (a, u) in
-        declaration_front L M (declaration_behind a (u, span_between ks ms)) xs ms ys
-        (led_out L M (declaration_behind a (u, span_between ks ms)) (with_attributes a u) xs ms
+        declaration_front L M (declaration_after a (u, span_between ks ms)) xs ms ys
+        (led_out L M (declaration_after a (u, span_between ks ms)) (with_attributes a u) xs ms
         (ap (λ (z : Span). spanned (with_attributes a u) z) (sym (written_begun L M a xs ks ms l w)))
         (i, refl, (ks, l, s))) r h
     go _ _ _ (no_item a f xs ks ys l (p, q, (ms, s, (ws, d, h)))) =

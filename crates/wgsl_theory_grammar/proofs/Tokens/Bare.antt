@@ -1,9 +1,9 @@
--- Behind blank space and comments stand none.
+-- After blank space and comments are none.
 use Rattle.std.proofs.Common.{◌≡◌, ℕ, suc, ◌==◌, ◌&&◌, Bool, true, false, cond, refl, List, [], ◌∷◌}
 use Rattle.wgsl_model.specs.Tokens.Characters.{is_blank, is_line_break}
 use Rattle.wgsl_model.specs.Tokens.Trivia.{Place, outside, in_line, in_block, second, out_of_block, first_or_zero, after_trivia}
 
--- no blank space and no comment stand at the front
+-- no blank space and no comment are at the front
 abbrev pub IsBare : List ℕ → Type 0
 IsBare text = after_trivia outside text ≡ text
 
@@ -22,19 +22,19 @@ bare_at : (c : ℕ) (cs : List ℕ) → is_blank c ≡ false → (c == 47 && fir
 unfolding after_trivia
 bare_at c cs b l k = rw (b, l, k) refl
 
-pub behind_trivia : (p : Place) (text : List ℕ) → IsBare (after_trivia p text)
+pub bare_after_trivia : (p : Place) (text : List ℕ) → IsBare (after_trivia p text)
 unfolding after_trivia
-behind_trivia p [] = refl
-behind_trivia outside (c ∷ cs) =
-    either_bare (is_blank c) _ _ (λ e. behind_trivia outside cs) (λ b.
-    either_bare (c == 47 && first_or_zero cs == 47) _ _ (λ e. behind_trivia (second in_line) cs) (λ l.
+bare_after_trivia p [] = refl
+bare_after_trivia outside (c ∷ cs) =
+    either_bare (is_blank c) _ _ (λ e. bare_after_trivia outside cs) (λ b.
+    either_bare (c == 47 && first_or_zero cs == 47) _ _ (λ e. bare_after_trivia (second in_line) cs) (λ l.
     either_bare (c == 47 && first_or_zero cs == 42) _ _
-    (λ e. behind_trivia (second (in_block 0)) cs) (λ k. bare_at c cs b l k)))
-behind_trivia in_line (c ∷ cs) = either_bare (is_line_break c) _ _ (λ e. behind_trivia outside cs)
-    (λ e. behind_trivia in_line cs)
-behind_trivia (in_block n) (c ∷ cs) =
+    (λ e. bare_after_trivia (second (in_block 0)) cs) (λ k. bare_at c cs b l k)))
+bare_after_trivia in_line (c ∷ cs) = either_bare (is_line_break c) _ _ (λ e. bare_after_trivia outside cs)
+    (λ e. bare_after_trivia in_line cs)
+bare_after_trivia (in_block n) (c ∷ cs) =
     either_bare (c == 47 && first_or_zero cs == 42) _ _
-    (λ e. behind_trivia (second (in_block (suc n))) cs) (λ l.
+    (λ e. bare_after_trivia (second (in_block (suc n))) cs) (λ l.
     either_bare (c == 42 && first_or_zero cs == 47) _ _
-    (λ e. behind_trivia (second (out_of_block n)) cs) (λ k. behind_trivia (in_block n) cs))
-behind_trivia (second p) (c ∷ cs) = behind_trivia p cs
+    (λ e. bare_after_trivia (second (out_of_block n)) cs) (λ k. bare_after_trivia (in_block n) cs))
+bare_after_trivia (second p) (c ∷ cs) = bare_after_trivia p cs

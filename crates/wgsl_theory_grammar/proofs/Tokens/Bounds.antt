@@ -2,7 +2,7 @@
 use Rattle.std.proofs.Common.{◌↔◌, ℕ, zero, suc, ◌<◌, ◌≤◌, List, [], ◌∷◌, drop, length, arith}
 use Rattle.grammar.specs.Tokens.{Token}
 use Rattle.wgsl_model.specs.Tokens.Templates.{TemplateRelation, Inside, at_greater, at_opening, at_closing, at_template, at_other, Enclosed, enclosed, TemplateUpTo, Template}
-use Rattle.wgsl_theory_grammar.proofs.Tokens.Cuts.{EndsWith, joined, cut_at, ends_length, shorter, behind_token, behind_first}
+use Rattle.wgsl_theory_grammar.proofs.Tokens.Cuts.{EndsWith, joined, cut_at, ends_length, shorter, after_token, after_first}
 
 -- what follows a template list is an end of its text
 abbrev pub LeavesEnd : TemplateRelation → Type 0
@@ -12,22 +12,22 @@ LeavesEnd R = (text : List ℕ) (ts : List Token) (rest : List ℕ) → R text t
 abbrev pub SameBelow : ℕ → TemplateRelation → TemplateRelation → Type 0
 SameBelow k R S = (text : List ℕ) (ts : List Token) (rest : List ℕ) → length text < k → R text ts rest ↔ S text ts rest
 
--- the `>` behind what stands inside a template list begins an end of the text
+-- the `>` after what is inside a template list begins an end of the text
 pub inside_leaves : (total : ℕ) (R : TemplateRelation) → LeavesEnd R
     → (depth : ℕ) (text : List ℕ) (ts : List Token) (end : List ℕ)
     → Inside total R depth text ts end → EndsWith text end
 inside_leaves total R s depth text ts end (at_greater t e after kind r g) = (cut_at text end after kind r).0
 inside_leaves total R s depth text ts end (at_opening d t from after e kind us r g h) =
-    joined text after end (behind_token text from after kind r) (inside_leaves total R s (suc depth) after us end h)
+    joined text after end (after_token text from after kind r) (inside_leaves total R s (suc depth) after us end h)
 inside_leaves total R s depth text ts end (at_closing d t from after e kind us r g h) =
-    joined text after end (behind_token text from after kind r) (inside_leaves total R s d after us end h)
+    joined text after end (after_token text from after kind r) (inside_leaves total R s d after us end h)
 inside_leaves total R s depth text ts end (at_template d t from after rest e kind us vs r w k h) =
-    joined text after end (behind_token text from after kind r)
+    joined text after end (after_token text from after kind r)
     (joined after rest end (s after us rest k) (inside_leaves total R s depth rest vs end h))
 inside_leaves total R s depth text ts end (at_other d t from after e kind us r g n h) =
-    joined text after end (behind_token text from after kind r) (inside_leaves total R s depth after us end h)
+    joined text after end (after_token text from after kind r) (inside_leaves total R s depth after us end h)
 
--- the same stands inside, where the relations are the same of the texts behind it
+-- the same is inside, where the relations are the same of the texts after it
 inside_same : (total k : ℕ) (R S : TemplateRelation) → LeavesEnd R → SameBelow k R S
     → (depth : ℕ) (text : List ℕ) (ts : List Token) (end : List ℕ) → length text ≤ k
     → Inside total R depth text ts end → Inside total S depth text ts end
@@ -57,11 +57,11 @@ enclosed_same total R S text s m ts rest (enclosed t from after end kind us v r 
     enclosed text from after end kind us v r c (inside_same total
     (length text) R S s m 0 after us end (omega (arith, shorter text from after kind r)) h) d
 
--- behind a list with its marks stands an end of the text
+-- after a list with its marks is an end of the text
 enclosed_leaves : (total : ℕ) (R : TemplateRelation) → LeavesEnd R → LeavesEnd (Enclosed total R)
 enclosed_leaves total R s text ts rest (enclosed t from after end kind us v r c h d) =
-    joined text after (drop 1 end) (behind_token text from after kind r)
-    (joined after end (drop 1 end) (inside_leaves total R s 0 after us end h) (behind_first end))
+    joined text after (drop 1 end) (after_token text from after kind r)
+    (joined after end (drop 1 end) (inside_leaves total R s 0 after us end h) (after_first end))
 
 pub up_to_leaves : (n total : ℕ) → LeavesEnd (TemplateUpTo n total)
 up_to_leaves zero total text ts rest h = absurd h

@@ -78,7 +78,7 @@ none_of_four : (a b c d : Bool) → not (a || b || c || d) ≡ true → (a ≡ f
 none_of_four false false false false h = (refl, refl, refl, refl)
 none_of_four a b c d h = absurd cc
 
--- what a list goes on behind is no bracket
+-- what a list goes on after is no bracket
 pub no_bracket : (depth c : ℕ) → goes_on depth c ≡ true → (is_opening c ≡ false) × (is_closing c ≡ false)
 no_bracket zero c g =
     let t = none_of_four (is_opening c) (is_closing c) (begins_with_greater c) (is_short_circuit c) g in
@@ -91,7 +91,7 @@ no_end c g =
     let t = none_of_four (is_opening c) (is_closing c) (begins_with_greater c) (is_short_circuit c) g in
     (t.2, t.3)
 
--- a list goes on behind what is none of these
+-- a list goes on after what is none of these
 pub goes_on_zero : (c : ℕ) → is_opening c ≡ false → is_closing c ≡ false
     → begins_with_greater c ≡ false → is_short_circuit c ≡ false → goes_on 0 c ≡ true
 goes_on_zero c o l g s = rw (o, l, g, s) refl
@@ -99,7 +99,7 @@ goes_on_zero c o l g s = rw (o, l, g, s) refl
 pub goes_on_deeper : (depth c : ℕ) → is_opening c ≡ false → is_closing c ≡ false → goes_on (suc depth) c ≡ true
 goes_on_deeper depth c o l = rw (o, l) refl
 
--- and so behind words
+-- and so after words
 pub word_goes_on : (depth c : ℕ) → is_word c ≡ true → goes_on depth c ≡ true
 word_goes_on zero c w =
     goes_on_zero c (false_from_ne_true _ (λ o. opening_word c o w))

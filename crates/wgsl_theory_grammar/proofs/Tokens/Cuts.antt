@@ -11,7 +11,7 @@ use Rattle.wgsl_model.specs.Tokens.Raw.{Raw, none_left, invalid, token, front, k
 abbrev pub EndsWith : List ℕ → List ℕ → Type 0
 EndsWith text rest = (before : List ℕ) × (text ≡ before ++ rest)
 
--- the text ends with the rest, behind at least one character
+-- the text ends with the rest, after at least one character
 abbrev pub EndsPast : List ℕ → List ℕ → Type 0
 EndsPast text rest = (c : ℕ) × (before : List ℕ) × (text ≡ (c ∷ before) ++ rest)
 
@@ -25,7 +25,7 @@ IsCut text none_left = Unit {0}
 IsCut text (invalid from after) = CutsIn text from after
 IsCut text (token kind from after) = CutsIn text from after
 
--- behind one character more, an end stands behind some character
+-- after one character more, an end is after some character
 past : (c : ℕ) (cs rest : List ℕ) → EndsWith cs rest → EndsPast (c ∷ cs) rest
 past c cs rest h = (c, h.0, ap (λ s. c ∷ s) h.1)
 
@@ -38,7 +38,7 @@ here-ends : (b : Bool) (text rest : List ℕ) → cond b (Some text) None ≡ So
 here-ends true text rest e = ([], cc)
 here-ends false text rest e = absurd (cc)
 
--- what is found in the text or behind its first character ends it
+-- what is found in the text or after its first character ends it
 either-ends : (c : ℕ) (cs rest : List ℕ) (o : Option (List ℕ)) (b : Bool) → ((r : List ℕ) → o ≡ Some r → EndsWith cs r)
     → or_else o (cond b (Some (c ∷ cs)) None) ≡ Some rest → EndsWith (c ∷ cs) rest
 either-ends c cs rest None b h e = here-ends b (c ∷ cs) rest e
@@ -52,7 +52,7 @@ longest-ends p (c ∷ cs) rest e =
     either-ends c cs rest (after_longest (λ front. p (c ∷ front)) cs) (p [])
     (λ r k. longest-ends (λ front. p (c ∷ front)) cs r k) e
 
--- what is found behind its first character alone stands behind some character
+-- what is found after its first character alone is after some character
 either-passes : (c : ℕ) (cs rest : List ℕ) (o : Option (List ℕ)) (b : Bool) → b ≡ false
     → ((r : List ℕ) → o ≡ Some r → EndsWith cs r)
     → or_else o (cond b (Some (c ∷ cs)) None) ≡ Some rest → EndsPast (c ∷ cs) rest
@@ -60,7 +60,7 @@ either-passes c cs rest None true n h e = absurd (cc)
 either-passes c cs rest None false n h e = absurd (cc)
 either-passes c cs rest (Some r) b n h e = past c cs rest (h rest e)
 
--- where the empty front does not pass, at least one character stands before
+-- where the empty front does not pass, at least one character is before
 longest-passes : (p : List ℕ → Bool) (c : ℕ) (cs rest : List ℕ) → p [] ≡ false
     → after_longest p (c ∷ cs) ≡ Some rest → EndsPast (c ∷ cs) rest
 unfolding after_longest
@@ -83,7 +83,7 @@ valued-cuts : (text rest : List ℕ) (o : Option Kind) → EndsPast text rest �
 valued-cuts text rest None h = (([], refl), h)
 valued-cuts text rest (Some kind) h = (([], refl), h)
 
--- and a text with no spelling is cut behind one character
+-- and a text with no spelling is cut after one character
 spelled-cuts : (c : ℕ) (cs : List ℕ) (o : Option (List ℕ)) → after_spelling spelling (c ∷ cs) ≡ o
     → IsCut (c ∷ cs) (spelled (c ∷ cs) cs o)
 spelled-cuts c cs None e = (([], refl), (c, [], refl))
@@ -143,19 +143,19 @@ cut_at text from after kind e = subst (IsCut text) e (raw-cuts text)
 pub ends_length : (text rest : List ℕ) → EndsWith text rest → length rest ≤ length text
 ends_length text rest h = omega (arith, ap length h.1, length-append h.0 rest)
 
--- less is left behind a token
+-- less is left after a token
 pub shorter : (text from after : List ℕ) (kind : Kind) → raw text ≡ token kind from after → length after < length text
 shorter text from after kind e =
     let c = cut_at text from after kind e in
     omega (arith, ends_length text from c.0, ap length c.1.2, length-append c.1.1 after)
 
 -- and that is an end of the text
-pub behind_token : (text from after : List ℕ) (kind : Kind) → raw text ≡ token kind from after → EndsWith text after
-behind_token text from after kind e =
+pub after_token : (text from after : List ℕ) (kind : Kind) → raw text ≡ token kind from after → EndsWith text after
+after_token text from after kind e =
     let c = cut_at text from after kind e in
     joined text from after c.0 (c.1.0 ∷ c.1.1, c.1.2)
 
 -- so is what follows its first character
-pub behind_first : (text : List ℕ) → EndsWith text (drop 1 text)
-behind_first [] = ([], refl)
-behind_first (c ∷ cs) = (c ∷ [], refl)
+pub after_first : (text : List ℕ) → EndsWith text (drop 1 text)
+after_first [] = ([], refl)
+after_first (c ∷ cs) = (c ∷ [], refl)

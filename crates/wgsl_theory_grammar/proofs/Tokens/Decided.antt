@@ -17,7 +17,7 @@ use Rattle.wgsl_theory_grammar.proofs.WrittenTree.{written_exact}
 use Rattle.wgsl_theory_grammar.proofs.Tokens.Cuts.{ends_length, shorter}
 use Rattle.wgsl_theory_grammar.proofs.Tokens.Bounds.{LeavesEnd, up_to_leaves}
 use Rattle.wgsl_theory_grammar.proofs.Tokens.Classes.{goes_on_zero, goes_on_deeper}
-use Rattle.wgsl_theory_grammar.proofs.Tokens.Inside.{at, Behind, behind_list, behind_none, step_at, from_opening, from_closing, from_short_circuit, from_other, to_other}
+use Rattle.wgsl_theory_grammar.proofs.Tokens.Inside.{at, After, after_list, after_none, step_at, from_opening, from_closing, from_short_circuit, from_other, to_other}
 use Rattle.wgsl_theory_grammar.proofs.Tokens.Unique.{IsUnique, inside_unique, up_to_unique}
 
 -- it holds, or it does not
@@ -46,7 +46,7 @@ Begins R text = (ts : List Token) × (rest : List ℕ) × R text ts rest
 abbrev pub IsDecided : TemplateRelation → Type 0
 IsDecided R = (text : List ℕ) → Decided (Begins R text)
 
--- tokens stand inside
+-- tokens are inside
 abbrev pub Stands : ℕ → TemplateRelation → ℕ → List ℕ → Type 0
 Stands total R depth text = (ts : List Token) × (end : List ℕ) × Inside total R depth text ts end
 
@@ -76,35 +76,35 @@ closing_decided total R (suc d) text from after kind r g o = elim (o d) [
       never (k.2, end, subst (λ x. Inside total R x after k.2 end) same k.4))
 ]
 
--- behind a token, which may be a word
-behind_decided : (total : ℕ) (R : TemplateRelation) → IsUnique R
+-- after a token, which may be a word
+after_decided : (total : ℕ) (R : TemplateRelation) → IsUnique R
     → (word : Bool) (depth : ℕ) (text : List ℕ) → Decided (Begins R text)
     → ((rest : List ℕ) → (ts : List Token) → R text ts rest → Decided (Stands total R depth rest))
     → Decided (Stands total R depth text)
-    → Decided ((ts : List Token) × (end : List ℕ) × Behind total R word depth text ts end)
-behind_decided total R u false depth text o inner (inl (ts, end, h)) = inl (ts, end, behind_none (λ w. absurd cc) h)
-behind_decided total R u false depth text o inner (inr never) = inr go where
-  go : (ts : List Token) × (end : List ℕ) × Behind total R false depth text ts end → ⊥
-  go (ts, end, behind_list w us vs rest q e h) = cc
-  go (ts, end, behind_none n h) = never (ts, end, h)
-behind_decided total R u true depth text (inl (us, rest, q)) inner o = elim (inner rest us q) [
-  | inl (ts, end, h) ↦ inl (us ++ ts, end, behind_list refl us ts rest q refl h)
+    → Decided ((ts : List Token) × (end : List ℕ) × After total R word depth text ts end)
+after_decided total R u false depth text o inner (inl (ts, end, h)) = inl (ts, end, after_none (λ w. absurd cc) h)
+after_decided total R u false depth text o inner (inr never) = inr go where
+  go : (ts : List Token) × (end : List ℕ) × After total R false depth text ts end → ⊥
+  go (ts, end, after_list w us vs rest q e h) = cc
+  go (ts, end, after_none n h) = never (ts, end, h)
+after_decided total R u true depth text (inl (us, rest, q)) inner o = elim (inner rest us q) [
+  | inl (ts, end, h) ↦ inl (us ++ ts, end, after_list refl us ts rest q refl h)
   | inr never ↦ inr (go never)
 ] where
-  go : (Stands total R depth rest → ⊥) → (ts : List Token) × (end : List ℕ) × Behind total R true depth text ts end → ⊥
-  go never (ts, end, behind_list w us' vs rest' q' e h) = never
+  go : (Stands total R depth rest → ⊥) → (ts : List Token) × (end : List ℕ) × After total R true depth text ts end → ⊥
+  go never (ts, end, after_list w us' vs rest' q' e h) = never
       (vs, end, subst (λ x. Inside total R depth x vs end) (sym (u text us us' rest rest' q q').1) h)
-  go never (ts, end, behind_none n h) = n refl us rest q
-behind_decided total R u true depth text (inr none) inner (inl (ts, end, h)) =
-    inl (ts, end, behind_none (λ w us rest q. none (us, rest, q)) h)
-behind_decided total R u true depth text (inr none) inner (inr never) = inr go where
-  go : (ts : List Token) × (end : List ℕ) × Behind total R true depth text ts end → ⊥
-  go (ts, end, behind_list w us vs rest q e h) = none (us, rest, q)
-  go (ts, end, behind_none n h) = never (ts, end, h)
+  go never (ts, end, after_none n h) = n refl us rest q
+after_decided total R u true depth text (inr none) inner (inl (ts, end, h)) =
+    inl (ts, end, after_none (λ w us rest q. none (us, rest, q)) h)
+after_decided total R u true depth text (inr none) inner (inr never) = inr go where
+  go : (ts : List Token) × (end : List ℕ) × After total R true depth text ts end → ⊥
+  go (ts, end, after_list w us vs rest q e h) = none (us, rest, q)
+  go (ts, end, after_none n h) = never (ts, end, h)
 
 other_decided : (total : ℕ) (R : TemplateRelation) (depth : ℕ) (text from after : List ℕ) (kind : Kind)
     → raw text ≡ token kind from after → goes_on depth kind.class ≡ true
-    → Decided ((ts : List Token) × (end : List ℕ) × Behind total R (is_word kind.class) depth after ts end)
+    → Decided ((ts : List Token) × (end : List ℕ) × After total R (is_word kind.class) depth after ts end)
     → Decided (Stands total R depth text)
 other_decided total R depth text from after kind r g (inl (ts, end, h)) =
     inl (at total kind from after ∷ ts, end, to_other total R depth text from after kind ts end r g h)
@@ -117,7 +117,7 @@ class_decided : (total : ℕ) (R : TemplateRelation)
     → (depth : ℕ) (text from after : List ℕ) (kind : Kind) → raw text ≡ token kind from after
     → ((d : ℕ) → Decided (Stands total R d after))
     → (goes_on depth kind.class ≡ true → Decided ((ts : List Token) × (end : List ℕ)
-    × Behind total R (is_word kind.class) depth after ts end)) → Decided (Stands total R depth text)
+    × After total R (is_word kind.class) depth after ts end)) → Decided (Stands total R depth text)
 class_decided total R depth text from after kind r o b = elim (cases (is_opening kind.class)) [
   | inl g ↦ opening_decided total R depth text from after kind r g (o (suc depth))
   | inr g ↦ elim (cases (is_closing kind.class)) [
@@ -126,7 +126,7 @@ class_decided total R depth text from after kind r o b = elim (cases (is_opening
   ]
 ] where
   at_depth : (depth : ℕ) → raw text ≡ token kind from after → (goes_on depth kind.class ≡ true
-      → Decided ((ts : List Token) × (end : List ℕ) × Behind total R (is_word kind.class) depth after ts end))
+      → Decided ((ts : List Token) × (end : List ℕ) × After total R (is_word kind.class) depth after ts end))
       → is_opening kind.class ≡ false → is_closing kind.class ≡ false → Decided (Stands total R depth text)
   at_depth (suc d) r b g l =
       let on = goes_on_deeper d kind.class g l in other_decided total R
@@ -153,11 +153,11 @@ front_decided k total R u d s depth text (invalid from after) e lt more =
 front_decided k total R u d s depth text (token kind from after) e lt more =
     let less = shorter text from after kind e in
     class_decided total R depth text from after kind e (λ deep. more deep after (omega (arith, less)))
-    (λ on. behind_decided total R u (is_word kind.class) depth after (d after)
+    (λ on. after_decided total R u (is_word kind.class) depth after (d after)
     (λ rest ts q. more depth rest (omega (arith, less, ends_length after rest (s after ts rest q))))
     (more depth after (omega (arith, less))))
 
--- what stands inside, of texts shorter than a bound
+-- what is inside, of texts shorter than a bound
 inside_decided : (k total : ℕ) (R : TemplateRelation) → IsUnique R → LeavesEnd R → IsDecided R
     → (depth : ℕ) (text : List ℕ) → length text < k → Decided (Stands total R depth text)
 inside_decided zero total R u s d depth text lt = absurd (omega arith)

@@ -1,4 +1,4 @@
--- What stands inside a template list, by the token at the front.
+-- What is inside a template list, by the token at the front.
 use Rattle.std.proofs.Common.{◌≡◌, ℕ, zero, suc, Bool, true, List, [], ◌∷◌, ◌++◌, refl, sym, subst}
 use Rattle.grammar.specs.Tokens.{Token}
 use Rattle.grammar.proofs.Reading.Sets.{clash}
@@ -8,7 +8,7 @@ use Rattle.wgsl_model.specs.Tokens.Places.{place}
 use Rattle.wgsl_model.specs.Tokens.Templates.{is_word, is_opening, is_closing, begins_with_greater, is_short_circuit, goes_on, TemplateRelation, NoTemplate, Inside, at_greater, at_opening, at_closing, at_template, at_other}
 use Rattle.wgsl_theory_grammar.proofs.Tokens.Classes.{opening_word, closing_word, greater_word, short_circuit_word, opening_closing, opening_greater, opening_short_circuit, closing_greater, greater_short_circuit, no_bracket, no_end}
 
--- a token where it stands
+-- a token where it is
 abbrev pub at : ℕ → Kind → List ℕ → List ℕ → Token
 at total kind from after = placed kind (place total from) (place total after)
 
@@ -55,13 +55,13 @@ pub step_at : (total : ℕ) (R : TemplateRelation) (depth : ℕ) (text : List �
 step_at total R depth text ts end r e h = subst (λ x. StepOf total R depth x ts end) e
     (steps total R depth text ts end h)
 
--- behind a token, which may be a word: a template list, or none
-pub data Behind (total : ℕ) (R : TemplateRelation) (word : Bool) (depth : ℕ) (text : List ℕ)
+-- after a token, which may be a word: a template list, or none
+pub data After (total : ℕ) (R : TemplateRelation) (word : Bool) (depth : ℕ) (text : List ℕ)
     (ts : List Token) (end : List ℕ) : Type 0 where
-  behind_list : word ≡ true → (us vs : List Token) (rest : List ℕ) → R text us rest → ts ≡ us ++ vs
-      → Inside total R depth rest vs end → Behind total R word depth text ts end
-  behind_none : (word ≡ true → NoTemplate R text) → Inside total R depth text ts end
-      → Behind total R word depth text ts end
+  after_list : word ≡ true → (us vs : List Token) (rest : List ℕ) → R text us rest → ts ≡ us ++ vs
+      → Inside total R depth rest vs end → After total R word depth text ts end
+  after_none : (word ≡ true → NoTemplate R text) → Inside total R depth text ts end
+      → After total R word depth text ts end
 
 -- ---- what each token leaves
 pub from_greater : (total : ℕ) (R : TemplateRelation) (kind : Kind) (from after : List ℕ)
@@ -116,22 +116,22 @@ no_greater (suc depth) c z b g = absurd cc
 pub from_other : (total : ℕ) (R : TemplateRelation) (depth : ℕ) (kind : Kind) (from after : List ℕ)
     (ts : List Token) (end : List ℕ) → goes_on depth kind.class ≡ true
     → Step total R depth kind from after ts end
-    → (us : List Token) × (ts ≡ at total kind from after ∷ us) × Behind total R (is_word kind.class) depth after us end
+    → (us : List Token) × (ts ≡ at total kind from after ∷ us) × After total R (is_word kind.class) depth after us end
 from_other total R depth kind from after ts end g (greater_step z b e f) = absurd (no_greater depth kind.class z b g)
 from_other total R depth kind from after ts end g (opening_step o us e h) = clash _ o (no_bracket depth kind.class g).0
 from_other total R depth kind from after ts end g (closing_step l d z us e h) = clash _ l
     (no_bracket depth kind.class g).1
 from_other total R depth kind from after ts end g (template_step w us vs rest q e h) =
-    (us ++ vs, e, behind_list w us vs rest q refl h)
-from_other total R depth kind from after ts end g (other_step o n us e h) = (us, e, behind_none n h)
+    (us ++ vs, e, after_list w us vs rest q refl h)
+from_other total R depth kind from after ts end g (other_step o n us e h) = (us, e, after_none n h)
 
 -- and back
 pub to_other : (total : ℕ) (R : TemplateRelation) (depth : ℕ) (text from after : List ℕ) (kind : Kind)
     (ts : List Token) (end : List ℕ) → raw text ≡ token kind from after → goes_on depth kind.class ≡ true
-    → Behind total R (is_word kind.class) depth after ts end
+    → After total R (is_word kind.class) depth after ts end
     → Inside total R depth text (at total kind from after ∷ ts) end
-to_other total R depth text from after kind ts end r g (behind_list w us vs rest q e h) =
+to_other total R depth text from after kind ts end r g (after_list w us vs rest q e h) =
     subst (λ (x : List Token). Inside total R depth text (at total kind from after ∷ x) end) (sym e)
     (at_template depth text from after rest end kind us vs r w q h)
-to_other total R depth text from after kind ts end r g (behind_none n h) =
+to_other total R depth text from after kind ts end r g (after_none n h) =
     at_other depth text from after end kind ts r g n h

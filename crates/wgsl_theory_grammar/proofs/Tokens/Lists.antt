@@ -14,7 +14,7 @@ use Rattle.wgsl_theory_grammar.proofs.Tokens.Inside.{at}
 use Rattle.wgsl_theory_grammar.proofs.Tokens.Unique.{template_unique}
 use Rattle.wgsl_theory_grammar.proofs.Tokens.Decided.{Decided, Begins, template_decided}
 
--- some token list, of a text that ends a source of so many bytes
+-- some token list, of a text that ends a source of a number of bytes
 abbrev pub HasTokens : ℕ → List ℕ → Type 0
 HasTokens total text = (ts : List Token) × (e : Ending) × TokensOf total text ts e
 
@@ -22,22 +22,22 @@ HasTokens total text = (ts : List Token) × (e : Ending) × TokensOf total text 
 abbrev pub fault_at : ℕ → List ℕ → List ℕ → Ending
 fault_at total from after = carried (invalid_token (record { start = place total from; end = place total after }))
 
--- behind a token, by whether it is a word and whether a template list follows
-tokens_behind : (total : ℕ) (text from after : List ℕ) (kind : Kind)
+-- after a token, by whether it is a word and whether a template list follows
+tokens_after : (total : ℕ) (text from after : List ℕ) (kind : Kind)
     → raw text ≡ token kind from after → (is_word kind.class ≡ true) ⊎ (is_word kind.class ≡ false)
     → Decided (Begins (Template total) after)
     → ((rest : List ℕ) → length rest < length text → HasTokens total rest) → HasTokens total text
-tokens_behind total text from after kind e (inl w) (inl (us, rest, q)) more =
+tokens_after total text from after kind e (inl w) (inl (us, rest, q)) more =
     let less = shorter text from after kind e in
     let m = more rest (omega (arith, less, ends_length after rest (template_leaves total after us rest q))) in
     (at total kind from after ∷ (us ++ m.0), m.1, before_template text from after rest kind us m.0 m.1 e w q m.2)
-tokens_behind total text from after kind e (inl w) (inr none) more =
+tokens_after total text from after kind e (inl w) (inr none) more =
     let m = more after (shorter text from after kind e) in (
       at total kind from after ∷ m.0,
       m.1,
       before_more text from after kind m.0 m.1 e (λ _ us rest q. none (us, rest, q)) m.2,
     )
-tokens_behind total text from after kind e (inr w) d more =
+tokens_after total text from after kind e (inr w) d more =
     let m = more after (shorter text from after kind e) in
     (at total kind from after ∷ m.0, m.1, before_more text from after kind m.0 m.1 e (λ w'. clash _ w' w) m.2)
 
@@ -45,7 +45,7 @@ tokens_from : (total : ℕ) (text : List ℕ) (r : Raw) → raw text ≡ r
     → ((rest : List ℕ) → length rest < length text → HasTokens total rest) → HasTokens total text
 tokens_from total text none_left e more = ([], finished, at_end text e)
 tokens_from total text (invalid from after) e more = ([], fault_at total from after, at_fault text from after e)
-tokens_from total text (token kind from after) e more = tokens_behind total text from after kind e
+tokens_from total text (token kind from after) e more = tokens_after total text from after kind e
     (cases (is_word kind.class)) (template_decided total after) more
 
 -- a text of fewer than n characters has one
@@ -54,7 +54,7 @@ tokens_below zero total text h = absurd (omega arith)
 tokens_below (suc n) total text h = tokens_from total text (raw text) refl
     (λ rest lt. tokens_below n total rest (omega arith))
 
--- every text has a token list, wherever it stands
+-- every text has a token list, wherever it is
 pub tokens_exist : (total : ℕ) (text : List ℕ) → HasTokens total text
 tokens_exist total text = tokens_below (suc (length text)) total text (omega arith)
 
@@ -62,7 +62,7 @@ tokens_exist total text = tokens_below (suc (length text)) total text (omega ari
 pub token_list_exists : (source : List ℕ) → (ts : List Token) × (e : Ending) × IsTokenList source ts e
 token_list_exists source = tokens_exist (width source) source
 
--- behind a token, which may be a word: a template list, or none
+-- after a token, which may be a word: a template list, or none
 pub data Followed (total : ℕ) (word : Bool) (text : List ℕ) (ts : List Token) (e : Ending) : Type 0 where
   followed_list : word ≡ true → (us vs : List Token) (rest : List ℕ) → Template total text us rest
       → ts ≡ us ++ vs → TokensOf total rest vs e → Followed total word text ts e
@@ -93,7 +93,7 @@ pub says : (total : ℕ) (text : List ℕ) (ts : List Token) (e : Ending) (r : R
     → TokensOf total text ts e → Says total ts e r
 says total text ts e r is h = subst (Says total ts e) is (says_raw total text ts e h)
 
--- behind a word with a template list
+-- after a word with a template list
 list_follows : (total : ℕ) (word : Bool) (text rest : List ℕ) (us vs ts : List Token) (e f : Ending)
     → word ≡ true → Template total text us rest
     → ((xs : List Token) → TokensOf total rest xs f → (vs ≡ xs) × (e ≡ f))
@@ -104,7 +104,7 @@ list_follows total word text rest us vs ts e f w q again (followed_list w' us' v
     (ap₂ (λ a b. a ++ b) same.0 inner.0 ∙ sym s, inner.1)
 list_follows total word text rest us vs ts e f w q again (followed_none n h) = absurd (n w us rest q)
 
--- behind any other token
+-- after any other token
 none_follows : (total : ℕ) (word : Bool) (text : List ℕ) (vs ts : List Token) (e f : Ending)
     → (word ≡ true → NoTemplate (Template total) text)
     → ((xs : List Token) → TokensOf total text xs f → (vs ≡ xs) × (e ≡ f))

@@ -18,7 +18,7 @@ same_end [] (y ∷ ys) t u e w = absurd (omega (arith, past t u (y, ys, e)))
 same_end (x ∷ xs) [] t u e w = absurd (omega (arith, past u t (x, xs, sym e)))
 same_end (x ∷ xs) (y ∷ ys) t u e w = let tails : xs ++ t ≡ ys ++ u = cc in same_end xs ys t u tails w
 
--- so are those that stand at the same place
+-- so are those that are at the same place
 pub same_place : (total : ℕ) (text xs ys t u : List ℕ) → width text ≤ total → text ≡ xs ++ t
     → text ≡ ys ++ u → place total t ≡ place total u → t ≡ u
 same_place total text xs ys t u fits e f p =

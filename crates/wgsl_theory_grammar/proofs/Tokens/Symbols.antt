@@ -1,4 +1,4 @@
--- A token stands in the table of symbols where its class passes a test that no keyword, no name and
+-- A token is in the table of symbols where its class passes a test that no keyword, no name and
 -- no number passes.
 use Rattle.std.proofs.Common.{◌≡◌, ℕ, Bool, true, false, not, ◌&&◌, cond, Option, Some, None, List, [], ◌∷◌, refl, ap₂, subst, sym, ◌∙◌}
 use Rattle.std.specs.Prelude.{◌^◌, ◌||◌, ◌==◌, option_map, nat_lt, pos, codes, bytes_eq}

@@ -6,7 +6,7 @@ use Rattle.wgsl_model.specs.Tokens.Kind.{plain}
 use Rattle.wgsl_model.specs.Tokens.Raw.{token}
 use Rattle.wgsl_model.specs.Tokens.Templates.{is_word, TemplateRelation, NoTemplate, Inside, at_greater, at_opening, at_closing, at_template, at_other, Enclosed, enclosed, TemplateUpTo, Template}
 use Rattle.wgsl_theory_grammar.proofs.Tokens.Classes.{word_goes_on}
-use Rattle.wgsl_theory_grammar.proofs.Tokens.Inside.{at, Behind, behind_list, behind_none, step_at, from_greater, from_opening, from_closing, from_other}
+use Rattle.wgsl_theory_grammar.proofs.Tokens.Inside.{at, After, after_list, after_none, step_at, from_greater, from_opening, from_closing, from_other}
 
 -- a text has one list and one rest
 abbrev pub IsUnique : TemplateRelation → Type 0
@@ -19,27 +19,27 @@ with_front : (t : Token) (ts us vs : List Token) (e f : List ℕ) → us ≡ t �
     → (t ∷ ts ≡ us) × (e ≡ f)
 with_front t ts us vs e f g h = (ap (λ l. t ∷ l) h.0 ∙ sym g, h.1)
 
--- behind a word with a template list
-list_behind : (total : ℕ) (R : TemplateRelation) → IsUnique R
+-- after a word with a template list
+list_after : (total : ℕ) (R : TemplateRelation) → IsUnique R
     → (word : Bool) (depth : ℕ) (text rest e f : List ℕ) (us vs ts : List Token) → word ≡ true
     → R text us rest
     → ((xs : List Token) → Inside total R depth rest xs f → (vs ≡ xs) × (e ≡ f))
-    → Behind total R word depth text ts f → (us ++ vs ≡ ts) × (e ≡ f)
-list_behind total R u word depth text rest e f us vs ts w q again (behind_list w' us' vs' rest' q' s j) =
+    → After total R word depth text ts f → (us ++ vs ≡ ts) × (e ≡ f)
+list_after total R u word depth text rest e f us vs ts w q again (after_list w' us' vs' rest' q' s j) =
     let same = u text us us' rest rest' q q' in
     let inner = again vs' (subst (λ x. Inside total R depth x vs' f) (sym same.1) j) in
     (ap₂ (λ a b. a ++ b) same.0 inner.0 ∙ sym s, inner.1)
-list_behind total R u word depth text rest e f us vs ts w q again (behind_none n j) = absurd (n w us rest q)
+list_after total R u word depth text rest e f us vs ts w q again (after_none n j) = absurd (n w us rest q)
 
--- behind any other token
-none_behind : (total : ℕ) (R : TemplateRelation) (word : Bool) (depth : ℕ) (text e f : List ℕ)
+-- after any other token
+none_after : (total : ℕ) (R : TemplateRelation) (word : Bool) (depth : ℕ) (text e f : List ℕ)
     (vs ts : List Token) → (word ≡ true → NoTemplate R text)
     → ((xs : List Token) → Inside total R depth text xs f → (vs ≡ xs) × (e ≡ f))
-    → Behind total R word depth text ts f → (vs ≡ ts) × (e ≡ f)
-none_behind total R word depth text e f vs ts n again (behind_list w us' vs' rest q s j) = absurd (n w us' rest q)
-none_behind total R word depth text e f vs ts n again (behind_none m j) = again ts j
+    → After total R word depth text ts f → (vs ≡ ts) × (e ≡ f)
+none_after total R word depth text e f vs ts n again (after_list w us' vs' rest q s j) = absurd (n w us' rest q)
+none_after total R word depth text e f vs ts n again (after_none m j) = again ts j
 
--- what stands inside is one list, where template lists are
+-- what is inside is one list, where template lists are
 pub inside_unique : (total : ℕ) (R : TemplateRelation) → IsUnique R
     → (depth : ℕ) (text : List ℕ) (ts us : List Token) (e f : List ℕ)
     → Inside total R depth text ts e → Inside total R depth text us f → (ts ≡ us) × (e ≡ f)
@@ -61,12 +61,12 @@ inside_unique total R u depth text ts us e f (at_template d t from after rest e'
     let h = from_other total R depth kind from after us f (word_goes_on depth kind.class w)
     (step_at total R depth text us f (token kind from after) r k) in
     with_front (at total kind from after) (vs ++ ws) us h.0 e f h.1
-    (list_behind total R u (is_word kind.class) depth after rest e f vs ws h.0 w q
+    (list_after total R u (is_word kind.class) depth after rest e f vs ws h.0 w q
     (λ xs j. inside_unique total R u depth rest ws xs e f i j) h.2)
 inside_unique total R u depth text ts us e f (at_other d t from after e' kind vs r g n i) k =
     let h = from_other total R depth kind from after us f g
     (step_at total R depth text us f (token kind from after) r k) in
-    with_front (at total kind from after) vs us h.0 e f h.1 (none_behind total R (is_word kind.class)
+    with_front (at total kind from after) vs us h.0 e f h.1 (none_after total R (is_word kind.class)
     depth after e f vs h.0 n (λ xs j. inside_unique total R u depth after vs xs e f i j) h.2)
 
 -- the marks round a list

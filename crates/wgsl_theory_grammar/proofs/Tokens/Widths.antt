@@ -12,11 +12,11 @@ width-append xs ys = ap length (encodes-append xs ys) ∙ length-append _ _
 pub within : (text rest : List ℕ) → EndsWith text rest → width rest ≤ width text
 within text rest h = omega (arith, ap width h.1, width-append h.0 rest)
 
--- behind at least one character it is narrower
+-- after at least one character it is narrower
 pub past : (text rest : List ℕ) → EndsPast text rest → width rest < width text
 past text rest h = omega (arith, ap width h.2, width-append (h.0 ∷ h.1) rest, length-le-encodes (h.0 ∷ h.1))
 
--- so it is behind the first character of a text that has one
+-- so it is after the first character of a text that has one
 pub past_first : (text rest : List ℕ) → EndsPast text rest → EndsPast text (drop 1 text)
 past_first [] rest h = let e = h.2 in absurd cc
 past_first (c ∷ cs) rest h = (c, [], refl)

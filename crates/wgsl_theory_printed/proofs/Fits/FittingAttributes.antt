@@ -16,7 +16,7 @@ use Rattle.wgsl_theory_printed.proofs.Fits.FittingSigns.{before_name, left_paren
 use Rattle.wgsl_theory_printed.proofs.Fits.FittingExpressions.{closed_by_paren, closed_by_comma, ends_at_paren, ends_at_point, expression_node_fits, type_fits}
 use Rattle.wgsl_theory_printed.proofs.Fits.WrittenWords.{builtin_value_name, severity_name, interpolation_type_name, interpolation_sampling_name, one_argument_name, no_argument_name, builtin_name, diagnostic_name, interpolate_name, workgroup_size_name, type_name}
 use Rattle.wgsl_theory_printed.proofs.TreePieces.PiecesOfExpressions.{sign, name, comma, expression_node_pieces, type_pieces}
-use Rattle.wgsl_theory_printed.proofs.TreePieces.PiecesOfAttributes.{optional_pieces, further_pieces, list_pieces, behind_comma_pieces, rule_pieces_from, rule_pieces, further_types_pieces, types_pieces, arguments_pieces, named_attribute_pieces, attribute_pieces, further_attributes_pieces, attributes_pieces}
+use Rattle.wgsl_theory_printed.proofs.TreePieces.PiecesOfAttributes.{optional_pieces, further_pieces, list_pieces, after_comma_pieces, rule_pieces_from, rule_pieces, further_types_pieces, types_pieces, arguments_pieces, named_attribute_pieces, attribute_pieces, further_attributes_pieces, attributes_pieces}
 
 -- ---- attributes that are so spelled
 
@@ -30,9 +30,9 @@ abbrev pub Every : {A : Type 0} → (A → Type 0) → List A → Type 0
 Every P [] = Unit {0}
 Every P (a ∷ more) = P a × Every P more
 
-pub Every-behind : {A : Type 0} (P : A → Type 0) (xs : List A) (x : A) → Every P xs → P x → Every P (xs ++ (x ∷ []))
-Every-behind P [] x h k = (k, tt)
-Every-behind P (y ∷ xs) x h k = (h.0, Every-behind P xs x h.1 k)
+pub Every-following : {A : Type 0} (P : A → Type 0) (xs : List A) (x : A) → Every P xs → P x → Every P (xs ++ (x ∷ []))
+Every-following P [] x h k = (k, tt)
+Every-following P (y ∷ xs) x h k = (h.0, Every-following P xs x h.1 k)
 
 -- one of two
 abbrev pub Either : Bool → Type 0 → Type 0 → Type 0
@@ -102,8 +102,8 @@ plain_name_fits text rest n c f = (name_fits text (render rest) n (closed_name (
 pub optional_fits : {A : Type 0} (put : A → Puts) (P : A → Type 0)
     → ((a : A) (rest : List Piece) → P a → Closed (render rest) → Fits rest → Fits (put a rest))
     → (o : Option A) (rest : List Piece) → IfSome P o → Closed (render rest) → Fits rest
-    → Fits (optional_pieces (behind_comma_pieces put) o rest)
-    × Closed (render (optional_pieces (behind_comma_pieces put) o rest))
+    → Fits (optional_pieces (after_comma_pieces put) o rest)
+    × Closed (render (optional_pieces (after_comma_pieces put) o rest))
 optional_fits put P one None rest s c f = (f, c)
 optional_fits put P one (Some a) rest s c f = ((comma_fits _, one a rest s c f), closed_by_comma (put a rest))
 
@@ -194,7 +194,7 @@ named_attribute_fits (interpolate i) rest s n f =
     (λ (x : InterpolationSampling). Unit {0})
     (λ x r u c g. plain_name_fits (interpolation_sampling_text x) r (interpolation_sampling_name x) c g)
     i.sampling (sign (codes ")") SymParenRight rest) (any i.sampling) (closed_by_paren rest) (paren_fits rest f) in
-    let more = optional_pieces (behind_comma_pieces (λ (x : InterpolationSampling).
+    let more = optional_pieces (after_comma_pieces (λ (x : InterpolationSampling).
     name (interpolation_sampling_text x))) i.sampling (sign (codes ")") SymParenRight rest) in
     opened_fits (codes "interpolate") (name (interpolation_type_text i.ty) more) interpolate_name
     (plain_name_fits (interpolation_type_text i.ty) more (interpolation_type_name i.ty) last.1 last.0)
@@ -203,8 +203,8 @@ named_attribute_fits (interpolate i) rest s n f =
     any None = tt
     any (Some x) = tt
 named_attribute_fits (workgroup_size w) rest s n f =
-    let last = optional_pieces (behind_comma_pieces expression_node_pieces) w.z (sign (codes ")") SymParenRight rest) in
-    let more = optional_pieces (behind_comma_pieces expression_node_pieces) w.y last in
+    let last = optional_pieces (after_comma_pieces expression_node_pieces) w.z (sign (codes ")") SymParenRight rest) in
+    let more = optional_pieces (after_comma_pieces expression_node_pieces) w.y last in
     let third = optional_fits expression_node_pieces IsSoundNode node_fits w.z
     (sign (codes ")") SymParenRight rest) s.2 (closed_by_paren rest) (paren_fits rest f) in
     let second = optional_fits expression_node_pieces IsSoundNode node_fits w.y last s.1 third.1 third.0 in

@@ -1,4 +1,5 @@
--- Written by tools/tables/tree_fits.py from wgsl_model: statements whose names and literals are spelled as
+-- Written by tools/tables/tree_fits.py from wgsl_model: statements whose names and literals are
+-- spelled as
 -- they are printed: the pieces of these fit.
 use Rattle.std.proofs.Common.{refl, suc, ◌∷◌}
 use Rattle.std.specs.Prelude.{List, codes, ℕ}

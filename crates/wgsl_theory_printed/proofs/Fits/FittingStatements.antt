@@ -23,7 +23,7 @@ use Rattle.wgsl_theory_printed.proofs.Fits.FittingExpressions.{opens_stands, exp
 use Rattle.wgsl_theory_printed.proofs.Fits.WrittenWords.{access_mode_name, address_space_name, keyword_fits}
 use Rattle.wgsl_theory_printed.proofs.Fits.FittingAttributes.{IfSome, Every, AreSoundAttributes, list_fits, node_fits, closed_type_fits, plain_name_fits, optional_fits, attributes_fit}
 use Rattle.wgsl_theory_printed.proofs.TreePieces.PiecesOfExpressions.{sign, name, expression_node_pieces, type_pieces}
-use Rattle.wgsl_theory_printed.proofs.TreePieces.PiecesOfAttributes.{list_pieces, optional_pieces, behind_comma_pieces, attributes_pieces}
+use Rattle.wgsl_theory_printed.proofs.TreePieces.PiecesOfAttributes.{list_pieces, optional_pieces, after_comma_pieces, attributes_pieces}
 use Rattle.wgsl_theory_printed.proofs.TreePieces.PiecesOfStatements.{var_template_pieces, kind_pieces, typed_pieces, initializer_pieces, declaration_pieces, returned_pieces, assert_pieces, selector_pieces, break_if_pieces, assignment_pieces, increment_pieces, decrement_pieces, return_pieces, call_statement_pieces}
 
 -- ---- statements that are so spelled
@@ -116,9 +116,9 @@ assignment_operator_fits shift_left_assign rest = sign_fits 60 (60 ∷ 61 ∷ []
 -- ---- declarations of values
 
 mode_fits : (o : Option AccessMode) (rest : List Piece) → Fits rest
-    → Fits (optional_pieces (behind_comma_pieces (λ (m : AccessMode). name (access_mode_text m))) o
+    → Fits (optional_pieces (after_comma_pieces (λ (m : AccessMode). name (access_mode_text m))) o
     (closes ∷ rest)) × Closed (render (optional_pieces
-    (behind_comma_pieces (λ (m : AccessMode). name (access_mode_text m))) o (closes ∷ rest)))
+    (after_comma_pieces (λ (m : AccessMode). name (access_mode_text m))) o (closes ∷ rest)))
 mode_fits o rest f = optional_fits (λ (m : AccessMode). name (access_mode_text m)) (λ m. Unit {0})
     (λ m r u c g. plain_name_fits (access_mode_text m) r (access_mode_name m) c g) o (closes ∷ rest)
     (any o) refl f
@@ -133,7 +133,7 @@ var_template_fits : (o : Option (AddressSpace × Option AccessMode)) (rest : Lis
 var_template_fits None rest e f = (f, e)
 var_template_fits (Some p) rest e f =
     let mode = mode_fits p.1 rest f in
-    let more = optional_pieces (behind_comma_pieces (λ (m : AccessMode). name (access_mode_text m)))
+    let more = optional_pieces (after_comma_pieces (λ (m : AccessMode). name (access_mode_text m)))
     p.1 (closes ∷ rest) in (
       (
         opens_stands _ (before_name (NotOn (codes "<")) (address_space_text p.0) (render more)

@@ -194,7 +194,7 @@ plain_line (c ∷ cs) h =
     let parts = and_parts (nat_lt c 128 && not (c == 10)) (plain_text cs) h in
     (not-true (c == 10) (and_parts (nat_lt c 128) _ parts.0).1, plain_line cs parts.1)
 
--- what stands fits
+-- what is fits
 text_fits : (w : List ℕ) (class : ℕ) (rest : List ℕ) → plain_text w ≡ true
     → IsOrdinary (plain class) → Stands w (plain class) rest → FitsBefore w (plain class) rest
 text_fits w class rest p o s =

@@ -15,7 +15,7 @@ use Rattle.wgsl_theory_printed.proofs.Spelling.Spellings.{IsSpelling, EndsBefore
 use Rattle.wgsl_theory_printed.proofs.Spelling.Signs.{begins_number, one_of_three}
 use Rattle.wgsl_theory_printed.proofs.Spelling.Ends.{ends_name, EndsName, EndsNumber, IsNameText, number_no_name, number_no_symbol, number_ends_before}
 use Rattle.wgsl_theory_printed.proofs.Fits.FittingWords.{spelled_on_one_line, name_fits, word_name}
-use Rattle.wgsl_theory_printed.proofs.Fits.PointBehind.{no_point_behind}
+use Rattle.wgsl_theory_printed.proofs.Fits.PointAfter.{no_point_after}
 
 -- ---- literals
 
@@ -55,7 +55,7 @@ point_ends k bytes (c ∷ cs) n a (inl e) = number_ends_before n.first n.others 
 point_ends k bytes (c ∷ cs) n a (inr e) = subst (λ d. EndsBefore (n.first ∷ n.others) (d ∷ cs))
     (sym e) (λ z h. one_of_three ((n.first ∷ n.others) ++ (46 ∷ z)) h
     (λ s. number_no_name n.first (n.others ++ (46 ∷ z)) n.begins s)
-    (λ s. no_point_behind (n.first ∷ n.others) k n.numbered a z s)
+    (λ s. no_point_after (n.first ∷ n.others) k n.numbered a z s)
     (λ s. number_no_symbol n.first n.others 46 z n.begins s))
 
 number_fits_at_point : (k : Kind) (bytes rest : List ℕ) → IsOrdinary k → IsNumberText k bytes
@@ -89,7 +89,7 @@ literal_fits (f16 t) rest s e = number_fits_at_point (literal_token (f16 t)) (pr
 -- ---- expressions
 
 -- an expression that begins with no operator: a literal, a call, a type or an expression in
--- parentheses, with components behind it
+-- parentheses, with components after it
 abbrev mutual
   pub IsPrimary : Expression → Type 0
   IsPrimary (named_component base component) = IsPrimaryNode base
@@ -110,7 +110,7 @@ abbrev pub IsOperandNode : ExpressionNode → Type 0
 IsOperandNode (expression_node e span) = IsOperand e
 
 abbrev mutual
-  -- names and literals are spelled, operators stand before operands, and names of components behind
+  -- names and literals are spelled, operators are before operands, and names of components after
   -- what begins with no operator
   pub IsSoundExpression : Expression → Type 0
   IsSoundExpression (literal l) = IsSoundLiteral l

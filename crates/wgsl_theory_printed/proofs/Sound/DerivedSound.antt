@@ -32,10 +32,10 @@ use Rattle.wgsl_theory_printed.proofs.Fits.FittingStatements.{EndsWithNameNode}
 use Rattle.wgsl_theory_printed.proofs.Fits.FittingNodes.{IsSoundStatement, IsSoundUnattributed, AreSoundStatements, IsSoundCompound, AreSoundElseIfs, IsSoundElseIf, IsSoundElse, IsSoundElseClause, AreSoundClauses, IsSoundClause, IsSoundMaybeContinuing, IsSoundContinuing, IsSoundPart}
 use Rattle.wgsl_theory_printed.proofs.Sound.Scanned.{word_classes}
 use Rattle.wgsl_theory_printed.proofs.Sound.SoundAttributes.{one_name_rule, two_names_rule, attribute_sound}
-use Rattle.wgsl_theory_reread.proofs.Gives.{anything, token_sound, symbol_sound, then_sound, or_sound, gives_sound, makes_sound, check_sound, weaker_sound, chain_sound, sign_before, sign_behind}
+use Rattle.wgsl_theory_reread.proofs.Gives.{anything, token_sound, symbol_sound, then_sound, or_sound, gives_sound, makes_sound, check_sound, weaker_sound, chain_sound, sign_before, sign_after}
 use Rattle.wgsl_theory_printed.proofs.Sound.SoundRules.{IsSoundStatementNode, Sound, Gives, optional_sound, many_sound, list_sound}
 
--- ---- lists, as they stand in a tree
+-- ---- lists, as they are in a tree
 
 pub nodes_sound : (es : List ExpressionNode) → Every IsSoundNode es → AreSoundNodes (expressions_of es)
 nodes_sound [] h = tt
@@ -111,7 +111,7 @@ primary_expression_gives = makes_sound (or_sound (gives_sound (symbol_sound type
     Expression.type_or_identifier IsSoundPrimary (λ t h. (tt, h)))
     (or_sound (gives_sound (symbol_sound call) Expression.function_call IsSoundPrimary (λ c h. (tt, h)))
     (or_sound (gives_sound (symbol_sound literal) Expression.literal IsSoundPrimary (λ l h. (tt, h)))
-    (gives_sound (sign_before SymParenLeft (sign_behind SymParenRight (symbol_sound expression)))
+    (gives_sound (sign_before SymParenLeft (sign_after SymParenRight (symbol_sound expression)))
     Expression.parenthesized IsSoundPrimary (λ e h. (tt, h))))))
     placed_expression IsSoundPrimaryNode (λ e s h. h)
 
@@ -121,7 +121,7 @@ singular_expression_gives = chain_sound (symbol_sound primary_expression)
 
 pub component_gives : Gives (written component) (Sound component)
 component_gives = or_sound
-    (gives_sound (sign_before SymBracketLeft (sign_behind SymBracketRight (symbol_sound expression)))
+    (gives_sound (sign_before SymBracketLeft (sign_after SymBracketRight (symbol_sound expression)))
     index_of (Sound component) (λ i h base p s. (p, tt, (s, h))))
     (gives_sound (sign_before SymPeriod (symbol_sound ident)) component_of (Sound component)
     (λ t h base p s. (p, tt, (p, s, h))))
@@ -150,8 +150,8 @@ operand_gives : Gives (symbol unary_expression) IsSoundNode
 operand_gives = weaker_sound (symbol_sound unary_expression) IsSoundNode (λ e h. h.1)
 
 -- an operator and an operand
-abbrev IsSoundBehind : BinaryOperator × ExpressionNode → Type 0
-IsSoundBehind p = Unit {0} × IsSoundNode p.1
+abbrev IsSoundAfter : BinaryOperator × ExpressionNode → Type 0
+IsSoundAfter p = Unit {0} × IsSoundNode p.1
 
 pub multiplicative_expression_gives : Gives (written multiplicative_expression) (Sound multiplicative_expression)
 multiplicative_expression_gives = chain_sound operand_gives
@@ -167,7 +167,7 @@ pub additive_expression_gives : Gives (written additive_expression) (Sound addit
 additive_expression_gives = chain_sound (symbol_sound multiplicative_expression)
     (or_sound (then_sound (anything additive_operator) (symbol_sound multiplicative_expression))
     (gives_sound (symbol_sound negated_expression) (λ (e : ExpressionNode). (subtraction, e))
-    IsSoundBehind (λ e h. (tt, h)))) binary_of (λ a b s h k. (h, k.1))
+    IsSoundAfter (λ e h. (tt, h)))) binary_of (λ a b s h k. (h, k.1))
 
 two_gives : (class : ℕ) (operator : BinaryOperator) {x : Rule ExpressionNode} → Gives x IsSoundNode
     → Gives (two class operator x) IsSoundNode
@@ -215,7 +215,7 @@ open_left_side_gives = or_sound
 
 pub parenthesized_left_side_gives : Gives parenthesized_left_side (Sound lhs_expression)
 parenthesized_left_side_gives =
-    left_chain_gives (makes_sound (sign_before SymParenLeft (sign_behind SymParenRight
+    left_chain_gives (makes_sound (sign_before SymParenLeft (sign_after SymParenRight
     (symbol_sound lhs_expression))) parenthesized_at IsSoundLeft (λ e s h. (tt, tt, h.2)))
 
 pub lhs_expression_gives : Gives (written lhs_expression) (Sound lhs_expression)
@@ -248,10 +248,10 @@ pub block_gives : Gives (symbol compound_statement gives tree.block_statement) I
 block_gives = gives_sound (symbol_sound compound_statement) tree.block_statement IsSoundStatement block_sound
 
 pub assertion_gives : Gives (symbol const_assert ◃ SymSemicolon gives assert_statement) IsSoundStatement
-assertion_gives = gives_sound (sign_behind SymSemicolon (symbol_sound const_assert))
+assertion_gives = gives_sound (sign_after SymSemicolon (symbol_sound const_assert))
     assert_statement IsSoundStatement (λ c h. h)
 
--- a statement and where it stands
+-- a statement and where it is
 pub item_gives : {g : Rule Statement} → Gives g IsSoundStatement → Gives (g makes placed_statement) IsSoundStatementNode
 item_gives G = makes_sound G placed_statement IsSoundStatementNode (λ v s h. h)
 
@@ -266,7 +266,7 @@ value_kind_gives = anything (KwLet means DeclarationKind.let_kind or KwConst mea
 pub assignment_operator_gives : Gives assignment_operator (λ (o : AssignmentOperator). Unit {0})
 assignment_operator_gives = anything assignment_operator
 
--- a statement behind attributes
+-- a statement after attributes
 pub attributed_gives : {g : Rule UnattributedStatement} → Gives g IsSoundUnattributed
     → Gives (attributed tree.statement g) IsSoundStatement
 attributed_gives G = gives_sound (then_sound attributes_give G)
@@ -281,7 +281,7 @@ pub else_block_gives : Gives else_block IsSoundElseClause
 else_block_gives = gives_sound (sign_before KwElse (symbol_sound compound_statement))
     (tree.else_clause []) IsSoundElseClause (λ b h. (tt, h))
 
--- a left side behind attributes
+-- a left side after attributes
 pub left_side_gives : Gives (left_side parsed) (λ p. AreSoundAttributes p.0 × Sound lhs_expression p.1)
 left_side_gives = or_sound (then_sound attributes_give open_left_side_gives)
     (gives_sound parenthesized_left_side_gives (λ e. ([], e))

@@ -17,7 +17,7 @@ use Rattle.wgsl_theory_printed.proofs.Fits.FittingUnits.{IsSoundGlobal, IsSoundU
 use Rattle.wgsl_theory_printed.proofs.Sound.DerivedSound.{additive_expression_gives, assertion_gives, assignment_operator_gives, attribute_gives, attributed_gives, attributes_give, block_gives, clauses_sound, component_gives, continuing_sound, else_block_gives, else_if_gives, else_ifs_sound, else_sound, expression_gives, ident_gives, initializer_gives, item_gives, left_side_gives, lhs_expression_gives, list_gives, literal_gives, multiplicative_expression_gives, negated_expression_gives, nodes_sound, part_sound, primary_expression_gives, relational_expression_gives, rule_of_sound, shift_expression_gives, singular_expression_gives, statements_give, statements_sound, template_sound, texts_sound, unary_expression_gives, underscore_gives, value_kind_gives, var_kind_gives}
 use Rattle.wgsl_theory_printed.proofs.Sound.SoundRules.{Gives, Sound, list_or_none_sound, list_sound, many_sound, optional_sound, several_sound}
 use Rattle.wgsl_theory_printed.proofs.Sound.SoundUnits.{IsSoundBody, IsSoundCase, assert_gives, asserted_gives, break_if_gives, clause_gives, continuing_gives, declaration_gives, diagnostic_severity_gives, directive_gives, function_sound, no_sign_gives, placed_gives, return_part_gives, var_template_gives}
-use Rattle.wgsl_theory_reread.proofs.Gives.{gives_sound, makes_sound, means_sound, or_sound, sign_before, sign_behind, symbol_sound, then_sound}
+use Rattle.wgsl_theory_reread.proofs.Gives.{gives_sound, makes_sound, means_sound, or_sound, sign_after, sign_before, symbol_sound, then_sound}
 
 type_specifier_gives : Gives (written type_specifier) (Sound type_specifier)
 type_specifier_gives =
@@ -25,7 +25,7 @@ type_specifier_gives =
     type_of (Sound type_specifier) (λ a h. (h.0, template_sound a.1 h.1))
 
 template_list_gives : Gives (written template_list) (Sound template_list)
-template_list_gives = sign_before TemplateArgsStart (sign_behind TemplateArgsEnd list_gives)
+template_list_gives = sign_before TemplateArgsStart (sign_after TemplateArgsEnd list_gives)
 
 expressions_gives : Gives (written expressions) (Sound expressions)
 expressions_gives = list_gives
@@ -38,34 +38,34 @@ call_gives =
 arguments_gives : Gives (written arguments) (Sound arguments)
 arguments_gives =
     sign_before SymParenLeft
-    (sign_behind SymParenRight (list_or_none_sound SymComma (symbol_sound expression)))
+    (sign_after SymParenRight (list_or_none_sound SymComma (symbol_sound expression)))
 
 compound_statement_gives : Gives (written compound_statement) (Sound compound_statement)
 compound_statement_gives =
     gives_sound (then_sound attributes_give
-    (sign_before SymBraceLeft (sign_behind SymBraceRight statements_give)))
+    (sign_before SymBraceLeft (sign_after SymBraceRight statements_give)))
     (λ (a, x). compound_of a x) (Sound compound_statement) (λ a h. (h.0, statements_sound a.1 h.1))
 
 statement_gives : Gives (written statement) (Sound statement)
 statement_gives =
     item_gives (or_sound
     (means_sound SymSemicolon (unattributed UnattributedStatement.void) IsSoundStatement (tt, tt))
-    (or_sound (sign_behind SymSemicolon (symbol_sound return_statement))
+    (or_sound (sign_after SymSemicolon (symbol_sound return_statement))
     (or_sound (symbol_sound if_statement)
     (or_sound (symbol_sound switch_statement)
     (or_sound (symbol_sound loop_statement)
     (or_sound (symbol_sound for_statement)
     (or_sound (symbol_sound while_statement)
-    (or_sound (sign_behind SymSemicolon (symbol_sound call_statement))
-    (or_sound (sign_behind SymSemicolon (symbol_sound var_statement))
-    (or_sound (sign_behind SymSemicolon (symbol_sound value_statement))
-    (or_sound (sign_behind SymSemicolon (symbol_sound break_statement))
-    (or_sound (sign_behind SymSemicolon (symbol_sound continue_statement))
-    (or_sound (sign_behind SymSemicolon (symbol_sound discard_statement))
-    (or_sound (sign_behind SymSemicolon (symbol_sound assignment))
-    (or_sound (sign_behind SymSemicolon (symbol_sound phony_assignment))
-    (or_sound (sign_behind SymSemicolon (symbol_sound increment))
-    (or_sound (sign_behind SymSemicolon (symbol_sound decrement))
+    (or_sound (sign_after SymSemicolon (symbol_sound call_statement))
+    (or_sound (sign_after SymSemicolon (symbol_sound var_statement))
+    (or_sound (sign_after SymSemicolon (symbol_sound value_statement))
+    (or_sound (sign_after SymSemicolon (symbol_sound break_statement))
+    (or_sound (sign_after SymSemicolon (symbol_sound continue_statement))
+    (or_sound (sign_after SymSemicolon (symbol_sound discard_statement))
+    (or_sound (sign_after SymSemicolon (symbol_sound assignment))
+    (or_sound (sign_after SymSemicolon (symbol_sound phony_assignment))
+    (or_sound (sign_after SymSemicolon (symbol_sound increment))
+    (or_sound (sign_after SymSemicolon (symbol_sound decrement))
     (or_sound block_gives assertion_gives))))))))))))))))))
 
 return_statement_gives : Gives (written return_statement) (Sound return_statement)
@@ -87,7 +87,7 @@ switch_statement_gives =
     attributed_gives (gives_sound (sign_before KwSwitch
     (then_sound (symbol_sound expression)
     (then_sound attributes_give (sign_before SymBraceLeft
-    (sign_behind SymBraceRight (several_sound (symbol_sound switch_clause)))))))
+    (sign_after SymBraceRight (several_sound (symbol_sound switch_clause)))))))
     (λ (selected, (body_attributes, clauses)). switch_of selected body_attributes clauses)
     IsSoundUnattributed (λ a h. (h.0, h.1.0, clauses_sound a.1.1 h.1.1)))
 
@@ -95,7 +95,7 @@ loop_statement_gives : Gives (written loop_statement) (Sound loop_statement)
 loop_statement_gives =
     attributed_gives (gives_sound (sign_before KwLoop
     (then_sound attributes_give (sign_before SymBraceLeft
-    (sign_behind SymBraceRight
+    (sign_after SymBraceRight
     (then_sound statements_give (optional_sound (symbol_sound continuing_statement)))))))
     (λ (body_attributes, (body, continuing)). loop_of body_attributes body continuing)
     IsSoundUnattributed
@@ -105,9 +105,9 @@ for_statement_gives : Gives (written for_statement) (Sound for_statement)
 for_statement_gives =
     attributed_gives (gives_sound (sign_before KwFor
     (sign_before SymParenLeft (then_sound
-    (sign_behind SymSemicolon (optional_sound (symbol_sound for_init)))
-    (then_sound (sign_behind SymSemicolon (optional_sound (symbol_sound expression)))
-    (then_sound (sign_behind SymParenRight (optional_sound (symbol_sound for_update)))
+    (sign_after SymSemicolon (optional_sound (symbol_sound for_init)))
+    (then_sound (sign_after SymSemicolon (optional_sound (symbol_sound expression)))
+    (then_sound (sign_after SymParenRight (optional_sound (symbol_sound for_update)))
     (symbol_sound compound_statement))))))
     (λ (init, (condition, (update, block))). for_of init condition update block) IsSoundUnattributed
     (λ a h. (part_sound a.0 h.0, h.1.0, part_sound a.1.1.0 h.1.1.0, h.1.1.1)))
@@ -166,13 +166,13 @@ phony_assignment_gives =
 
 increment_gives : Gives (written increment) (Sound increment)
 increment_gives =
-    gives_sound (sign_behind SymPlusPlus left_side_gives)
+    gives_sound (sign_after SymPlusPlus left_side_gives)
     (λ (attributes, left). statement_trees.statement attributes (increment_of left))
     (Sound increment) (λ a h. (h.0, (h.1.1, h.1.2)))
 
 decrement_gives : Gives (written decrement) (Sound decrement)
 decrement_gives =
-    gives_sound (sign_behind SymMinusMinus left_side_gives)
+    gives_sound (sign_after SymMinusMinus left_side_gives)
     (λ (attributes, left). statement_trees.statement attributes (decrement_of left))
     (Sound decrement) (λ a h. (h.0, (h.1.1, h.1.2)))
 
@@ -202,7 +202,7 @@ continuing_statement_gives : Gives (written continuing_statement) (Sound continu
 continuing_statement_gives =
     continuing_gives (gives_sound (sign_before KwContinuing
     (then_sound attributes_give (sign_before SymBraceLeft
-    (sign_behind SymBraceRight (then_sound statements_give (optional_sound break_if_gives))))))
+    (sign_after SymBraceRight (then_sound statements_give (optional_sound break_if_gives))))))
     (λ (body_attributes, (body, break_if)). (compound_of body_attributes body, break_if))
     IsSoundBody (λ a h. ((h.0, statements_sound a.1.0 h.1.0), h.1.1)))
 
@@ -231,13 +231,13 @@ typed_ident_gives =
 struct_member_gives : Gives (written struct_member) (Sound struct_member)
 struct_member_gives =
     makes_sound (then_sound attributes_give
-    (then_sound (sign_behind SymColon (symbol_sound ident)) (symbol_sound type_specifier)))
-    member_of (Sound struct_member) (λ a s h. (h.0, h.1.0, h.1.1))
+    (then_sound (sign_after SymColon (symbol_sound ident)) (symbol_sound type_specifier))) member_of
+    (Sound struct_member) (λ a s h. (h.0, h.1.0, h.1.1))
 
 formal_parameter_gives : Gives (written formal_parameter) (Sound formal_parameter)
 formal_parameter_gives =
     gives_sound (then_sound attributes_give
-    (then_sound (sign_behind SymColon (symbol_sound ident)) (symbol_sound type_specifier)))
+    (then_sound (sign_after SymColon (symbol_sound ident)) (symbol_sound type_specifier)))
     parameter_of (Sound formal_parameter) (λ a h. (h.0, h.1.0, h.1.1))
 
 global_declaration_gives : Gives (written global_declaration) (Sound global_declaration)
@@ -255,7 +255,7 @@ var_declaration_gives : Gives (written var_declaration) (Sound var_declaration)
 var_declaration_gives =
     declaration_gives (gives_sound
     (then_sound var_kind_gives (then_sound (symbol_sound typed_ident)
-    (sign_behind SymSemicolon (optional_sound initializer_gives))))
+    (sign_after SymSemicolon (optional_sound initializer_gives))))
     (λ (kind, (typed, value)). value_of kind typed value) IsSoundUnattributedDeclaration
     (λ a h. (h.1.0.0, h.1.0.1, h.1.1)))
 
@@ -263,7 +263,7 @@ const_declaration_gives : Gives (written const_declaration) (Sound const_declara
 const_declaration_gives =
     declaration_gives (gives_sound
     (sign_before KwConst
-    (then_sound (symbol_sound typed_ident) (sign_behind SymSemicolon initializer_gives)))
+    (then_sound (symbol_sound typed_ident) (sign_after SymSemicolon initializer_gives)))
     (λ (typed, value). value_of DeclarationKind.const_kind typed (Some value))
     IsSoundUnattributedDeclaration (λ a h. (h.0.0, h.0.1, h.1)))
 
@@ -271,7 +271,7 @@ override_declaration_gives : Gives (written override_declaration) (Sound overrid
 override_declaration_gives =
     declaration_gives (gives_sound
     (sign_before KwOverride (then_sound (symbol_sound typed_ident)
-    (sign_behind SymSemicolon (optional_sound initializer_gives))))
+    (sign_after SymSemicolon (optional_sound initializer_gives))))
     (λ (typed, value). value_of DeclarationKind.override_kind typed value)
     IsSoundUnattributedDeclaration (λ a h. (h.0.0, h.0.1, h.1)))
 
@@ -279,7 +279,7 @@ alias_declaration_gives : Gives (written alias_declaration) (Sound alias_declara
 alias_declaration_gives =
     declaration_gives (gives_sound
     (sign_before KwAlias (then_sound (symbol_sound ident)
-    (sign_before SymEqual (sign_behind SymSemicolon (symbol_sound type_specifier))))) alias_of
+    (sign_before SymEqual (sign_after SymSemicolon (symbol_sound type_specifier))))) alias_of
     IsSoundUnattributedDeclaration (λ a h. (h.0, h.1)))
 
 struct_declaration_gives : Gives (written struct_declaration) (Sound struct_declaration)
@@ -287,7 +287,7 @@ struct_declaration_gives =
     declaration_gives (gives_sound
     (sign_before KwStruct (then_sound (symbol_sound ident)
     (sign_before SymBraceLeft
-    (sign_behind SymBraceRight (list_sound SymComma (symbol_sound struct_member)))))) struct_of
+    (sign_after SymBraceRight (list_sound SymComma (symbol_sound struct_member)))))) struct_of
     IsSoundUnattributedDeclaration (λ a h. (h.0, h.1)))
 
 function_declaration_gives : Gives (written function_declaration) (Sound function_declaration)
@@ -295,7 +295,7 @@ function_declaration_gives =
     declaration_gives (gives_sound
     (sign_before KwFn (then_sound (symbol_sound ident)
     (sign_before SymParenLeft (then_sound
-    (sign_behind SymParenRight (list_or_none_sound SymComma (symbol_sound formal_parameter)))
+    (sign_after SymParenRight (list_or_none_sound SymComma (symbol_sound formal_parameter)))
     (then_sound (optional_sound return_part_gives) (symbol_sound compound_statement))))))
     (λ (name, (parameters, (returned, block))). function_of name parameters returned block)
     IsSoundUnattributedDeclaration
@@ -309,22 +309,22 @@ global_directive_gives =
 enable_directive_gives : Gives (written enable_directive) (Sound enable_directive)
 enable_directive_gives =
     directive_gives (gives_sound
-    (sign_before KwEnable (sign_behind SymSemicolon (list_sound SymComma (symbol_sound ident))))
+    (sign_before KwEnable (sign_after SymSemicolon (list_sound SymComma (symbol_sound ident))))
     enable_of IsSoundUnattributedDirective (λ a h. texts_sound a h))
 
 requires_directive_gives : Gives (written requires_directive) (Sound requires_directive)
 requires_directive_gives =
     directive_gives (gives_sound
-    (sign_before KwRequires (sign_behind SymSemicolon (list_sound SymComma (symbol_sound ident))))
+    (sign_before KwRequires (sign_after SymSemicolon (list_sound SymComma (symbol_sound ident))))
     requires_of IsSoundUnattributedDirective (λ a h. texts_sound a h))
 
 diagnostic_directive_gives : Gives (written diagnostic_directive) (Sound diagnostic_directive)
 diagnostic_directive_gives =
     directive_gives (gives_sound (then_sound
-    (sign_behind SymComma (symbol_sound diagnostic_severity))
+    (sign_after SymComma (symbol_sound diagnostic_severity))
     (then_sound (symbol_sound ident)
     (then_sound (optional_sound (sign_before SymPeriod (symbol_sound ident)))
-    (sign_behind SymSemicolon (sign_behind SymParenRight (no_sign_gives SymComma))))))
+    (sign_after SymSemicolon (sign_after SymParenRight (no_sign_gives SymComma))))))
     (λ (severity, (first, (second, comma))). diagnostic_of severity first second)
     IsSoundUnattributedDirective (λ a h. rule_of_sound a.1.0 a.1.1.0 h.1.0 h.1.1.0))
 

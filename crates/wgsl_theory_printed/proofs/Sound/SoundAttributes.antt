@@ -13,7 +13,7 @@ use Rattle.wgsl_theory_reread.proofs.Names.AttributeNames.{of_each_name}
 use Rattle.wgsl_theory_printed.proofs.Spelling.NoPeriods.{name_has_no_period}
 use Rattle.wgsl_theory_printed.proofs.Spelling.Ends.{IsNameText}
 use Rattle.wgsl_theory_printed.proofs.Fits.SoundExpressions.{IsSoundNode, IsSoundExpression, IsSoundType}
-use Rattle.wgsl_theory_printed.proofs.Fits.FittingAttributes.{IfSome, Every, IsSoundRule, IsSoundAttribute, Every-behind}
+use Rattle.wgsl_theory_printed.proofs.Fits.FittingAttributes.{IfSome, Every, IsSoundRule, IsSoundAttribute, Every-following}
 
 -- ---- names of rules
 
@@ -63,7 +63,7 @@ rule_name_sound (expression_node e span) s = tt
 more_variants : (o : Option (List TypeExpression)) (ty : TypeExpression) → IfSome (Every IsSoundType) o
     → IsSoundType ty → IfSome (Every IsSoundType) (option_map (λ types. types ++ (ty ∷ [])) o)
 more_variants None ty s t = tt
-more_variants (Some types) ty s t = Every-behind IsSoundType types ty s t
+more_variants (Some types) ty s t = Every-following IsSoundType types ty s t
 
 variants_in_sound : (e : Expression) → IsSoundExpression e → IfSome (Every IsSoundType) (variants_in e)
 variants_in_sound (type_or_identifier ty) s = (s, tt)

@@ -8,10 +8,10 @@ use Rattle.wgsl_model.specs.Grammar.Checks.{attribute_node}
 use Rattle.wgsl_model.specs.Grammar.TokenValues.{text_of}
 use Rattle.wgsl_model.specs.Grammar.Symbols.{Symbol, Rule, ident, type_specifier, template_list, expressions, call, arguments, literal, primary_expression, singular_expression, component, unary_expression, multiplicative_expression, negated_expression, additive_expression, shift_expression, relational_expression, expression, lhs_expression, attribute, compound_statement, statement, const_assert, switch_clause, case_selector, continuing_statement, for_init, for_update, var_template, typed_ident, struct_member, formal_parameter, global_declaration, var_declaration, const_declaration, override_declaration, alias_declaration, struct_declaration, function_declaration, diagnostic_severity, global_directive, enable_directive, requires_directive, diagnostic_directive, unit, Value}
 use Rattle.wgsl_theory_reread.specs.CanonicalUnits.{without_place}
-use Rattle.wgsl_theory_reread.proofs.Gives.{GivesBy, none_sound, or_sound, gives_sound, chain_sound, sign_before, sign_behind}
+use Rattle.wgsl_theory_reread.proofs.Gives.{GivesBy, none_sound, or_sound, gives_sound, chain_sound, sign_before, sign_after}
 use Rattle.wgsl_theory_printed.proofs.Spelling.Ends.{IsNameText}
 use Rattle.wgsl_theory_printed.proofs.Fits.SoundExpressions.{IsSoundLiteral, IsPrimary, IsPrimaryNode, IsOperandNode, IsSoundExpression, IsSoundNode, IsSoundCall, IsSoundType}
-use Rattle.wgsl_theory_printed.proofs.Fits.FittingAttributes.{IfSome, Every, IsSoundAttribute, Every-behind, AreSoundAttributes}
+use Rattle.wgsl_theory_printed.proofs.Fits.FittingAttributes.{IfSome, Every, IsSoundAttribute, Every-following, AreSoundAttributes}
 use Rattle.wgsl_theory_printed.proofs.Fits.FittingStatements.{EndsWithName, EndsWithNameNode, IsSoundSelector}
 use Rattle.wgsl_theory_printed.proofs.Fits.FittingNodes.{IsSoundStatement, IsSoundCompound, IsSoundClause, IsSoundContinuing}
 use Rattle.wgsl_theory_printed.proofs.Fits.FittingUnits.{IsSoundDirective, IsSoundMember, IsSoundParameter, IsSoundGlobal, IsSoundUnit}
@@ -82,20 +82,20 @@ optional_sound {A = A} {P = P} G = or_sound (gives_sound G (λ (a : A). Some a) 
 
 pub many_sound : {A : Type 0} {g : Rule A} {P : A → Type 0} → Gives g P → Gives (many g) (Every P)
 many_sound {A = A} {P = P} G = chain_sound (none_sound [] (Every P) tt) G
-    (λ (xs : List A) (x : A) s. xs ++ (x ∷ [])) (λ xs x s h k. Every-behind P xs x h k)
+    (λ (xs : List A) (x : A) s. xs ++ (x ∷ [])) (λ xs x s h k. Every-following P xs x h k)
 
 pub several_sound : {A : Type 0} {g : Rule A} {P : A → Type 0} → Gives g P → Gives (several g) (Every P)
 several_sound {A = A} {P = P} G =
     chain_sound (gives_sound G (λ (x : A). x ∷ []) (Every P) (λ a p. (p, tt))) G
-    (λ (xs : List A) (x : A) s. xs ++ (x ∷ [])) (λ xs x s h k. Every-behind P xs x h k)
+    (λ (xs : List A) (x : A) s. xs ++ (x ∷ [])) (λ xs x s h k. Every-following P xs x h k)
 
 separated_sound : {A : Type 0} (c : ℕ) {g : Rule A} {P : A → Type 0} → Gives g P → Gives (separated c g) (Every P)
 separated_sound {A = A} c {P = P} G =
     chain_sound (gives_sound G (λ (x : A). x ∷ []) (Every P) (λ a p. (p, tt))) (sign_before c G)
-    (λ (xs : List A) (x : A) s. xs ++ (x ∷ [])) (λ xs x s h k. Every-behind P xs x h k)
+    (λ (xs : List A) (x : A) s. xs ++ (x ∷ [])) (λ xs x s h k. Every-following P xs x h k)
 
 pub list_sound : {A : Type 0} (c : ℕ) {g : Rule A} {P : A → Type 0} → Gives g P → Gives (list c g) (Every P)
-list_sound c G = or_sound (separated_sound c G) (sign_behind c (separated_sound c G))
+list_sound c G = or_sound (separated_sound c G) (sign_after c (separated_sound c G))
 
 pub list_or_none_sound : {A : Type 0} (c : ℕ) {g : Rule A} {P : A → Type 0} → Gives g P
     → Gives (list_or_none c g) (Every P)

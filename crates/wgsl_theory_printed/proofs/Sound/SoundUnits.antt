@@ -22,7 +22,7 @@ use Rattle.wgsl_theory_printed.proofs.Fits.FittingAttributes.{IfSome, Every, Are
 use Rattle.wgsl_theory_printed.proofs.Fits.FittingStatements.{IsSoundSelector, IsSoundBreakIf}
 use Rattle.wgsl_theory_printed.proofs.Fits.FittingNodes.{IsSoundClause, IsSoundContinuing, IsSoundCompound}
 use Rattle.wgsl_theory_printed.proofs.Fits.FittingUnits.{IsSoundDirective, IsSoundParameter, IsSoundUnattributedDeclaration, IsSoundGlobal, IsSoundUnattributedDirective}
-use Rattle.wgsl_theory_reread.proofs.Gives.{symbol_sound, then_sound, gives_sound, makes_sound, check_sound, weaker_sound, anything, sign_before, sign_behind}
+use Rattle.wgsl_theory_reread.proofs.Gives.{symbol_sound, then_sound, gives_sound, makes_sound, check_sound, weaker_sound, anything, sign_before, sign_after}
 use Rattle.wgsl_theory_printed.proofs.Sound.SoundRules.{Sound, Gives, optional_sound}
 use Rattle.wgsl_theory_printed.proofs.Sound.DerivedSound.{attributes_give}
 
@@ -34,7 +34,7 @@ IsSoundCase p = Every IsSoundSelector p.0 × IsSoundCompound p.1
 
 pub break_if_gives : Gives (break_if parsed) IsSoundBreakIf
 break_if_gives = gives_sound (then_sound attributes_give (gives_sound (sign_before KwBreak
-    (sign_before KwIf (sign_behind SymSemicolon (symbol_sound expression)))) break_if_of
+    (sign_before KwIf (sign_after SymSemicolon (symbol_sound expression)))) break_if_of
     (λ (b : BreakIfStatement). IsSoundNode b.expression) (λ e h. h)))
     (λ p. with_attributes p.0 p.1) IsSoundBreakIf (λ p h. h)
 
@@ -64,7 +64,7 @@ assert_gives = gives_sound (sign_before KwConstAssert (symbol_sound expression))
 -- ---- declarations
 
 pub asserted_gives : Gives (symbol const_assert ◃ SymSemicolon gives assert_declaration) IsSoundGlobal
-asserted_gives = gives_sound (sign_behind SymSemicolon (symbol_sound const_assert))
+asserted_gives = gives_sound (sign_after SymSemicolon (symbol_sound const_assert))
     assert_declaration IsSoundGlobal (λ c h. h)
 
 pub placed_gives : {g : Rule GlobalDeclaration} → Gives g IsSoundGlobal
@@ -96,7 +96,7 @@ diagnostic_severity_gives =
     check_sound (weaker_sound (sign_before KwDiagnostic (sign_before SymParenLeft (symbol_sound ident)))
     (Sound diagnostic_severity) (λ t h. tt)) (λ t span. severity_fault t)
 
--- a directive behind its attributes
+-- a directive after its attributes
 pub directive_gives : {g : Rule UnattributedDirective} → Gives g IsSoundUnattributedDirective
     → Gives (attributed with_attributes g) IsSoundDirective
 directive_gives G = gives_sound (then_sound attributes_give G)

@@ -31,14 +31,14 @@ assign_stands [] = sign_stands 62 (62 ∷ (61 ∷ [])) SymShiftRightAssign [] re
 assign_stands (d ∷ ds) = sign_stands 62 (62 ∷ (61 ∷ [])) SymShiftRightAssign (d ∷ ds) refl refl refl
 
 -- `>>` or `>>=`
-behind_two : (text : List ℕ) → Greater (62 ∷ text)
-behind_two [] = record {
+after_two : (text : List ℕ) → Greater (62 ∷ text)
+after_two [] = record {
   kind = plain SymShiftRight;
   after = [];
   is_token = sign_stands 62 (62 ∷ []) SymShiftRight [] refl refl tt;
   greater = refl;
 }
-behind_two (c ∷ cs) = go (c == 61) refl
+after_two (c ∷ cs) = go (c == 61) refl
   where
     go : (b : Bool) → (c == 61) ≡ b → Greater (62 ∷ (c ∷ cs))
     go true e = subst (λ d. Greater (62 ∷ (d ∷ cs))) (sym (eqb-true c 61 e))
@@ -51,19 +51,19 @@ behind_two (c ∷ cs) = go (c == 61) refl
     }
 
 -- whatever follows
-pub behind_one : (text : List ℕ) → Greater text
-behind_one [] = record {
+pub after_one : (text : List ℕ) → Greater text
+after_one [] = record {
   kind = plain SymGreaterThan;
   after = [];
   is_token = sign_stands 62 [] SymGreaterThan [] refl refl tt;
   greater = refl;
 }
-behind_one (c ∷ cs) = go (c == 61) (c == 62) refl refl
+after_one (c ∷ cs) = go (c == 61) (c == 62) refl refl
   where
     go : (a b : Bool) → (c == 61) ≡ a → (c == 62) ≡ b → Greater (c ∷ cs)
     go true b e f = subst (λ d. Greater (d ∷ cs)) (sym (eqb-true c 61 e))
         (record { kind = plain SymGreaterThanEqual; after = cs; is_token = equal_stands cs; greater = refl })
-    go false true e f = subst (λ d. Greater (d ∷ cs)) (sym (eqb-true c 62 f)) (behind_two cs)
+    go false true e f = subst (λ d. Greater (d ∷ cs)) (sym (eqb-true c 62 f)) (after_two cs)
     go false false e f = record {
       kind = plain SymGreaterThan;
       after = c ∷ cs;
@@ -102,5 +102,5 @@ along (word w k ∷ ps) fits = along_word k (role k.class) (λ rest. Along (kind
     (chars w ++ render ps) (render ps) fits.0.ordinary fits.0.stands (along ps fits.1)
 along (opens ∷ ps) fits = (plain SymLessThan, 60 ∷ render ps, render ps, fits.0, refl, (refl, along ps fits.1))
 along (closes ∷ ps) fits =
-    let g = behind_one (render ps) in
+    let g = after_one (render ps) in
     (g.kind, 62 ∷ render ps, g.after, g.is_token, g.greater, (refl, along ps fits))

@@ -127,7 +127,7 @@ name_stands bytes rest n e =
 
 -- ---- numbers
 
--- a rest begins with a character that stands in no number
+-- a rest begins with a character that is in no number
 abbrev pub EndsNumber : List ℕ → Type 0
 EndsNumber [] = Unit {0}
 EndsNumber (c ∷ cs) = takes c number_spelling ≡ false

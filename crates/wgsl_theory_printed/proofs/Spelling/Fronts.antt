@@ -1,4 +1,4 @@
--- How a spelling begins, and which characters stand in no spelling but alone.
+-- How a spelling begins, and which characters are in no spelling but alone.
 use Rattle.std.proofs.Common.{◌≡◌, ℕ, ◌&&◌, Bool, true, false, sym, ap, List, [], ◌∷◌, ◌∙◌}
 use Rattle.std.proofs.lemmas.Bool.{and_parts, eqb-true, true≢false}
 use Rattle.grammar.specs.Tables.{is_empty}
@@ -30,7 +30,7 @@ pub spelled_first : (q : ℕ → Bool) (p : Pattern) → BeginsWith q p → (c :
     → spells p (c ∷ cs) ≡ true → q c ≡ true
 spelled_first q p s c cs h = begins_with q p s is_empty c cs h
 
--- a character that stands in no spelling of more than one
+-- a character that is in no spelling of more than one
 pub stands_alone : (c : ℕ) (p : Pattern) → goes_on_with c p ≡ false → (x y : ℕ) (ys : List ℕ)
     → spells p (x ∷ (y ∷ ys)) ≡ true → Each (differs c) (x ∷ (y ∷ ys))
 unfolding begins

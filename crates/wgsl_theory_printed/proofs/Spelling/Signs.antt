@@ -254,10 +254,10 @@ no_front (x ∷ xs) (y ∷ ys) c n h =
     and_false true = refl
     and_false false = refl
 
-no_front_behind : (x : ℕ) (xs : List ℕ) (w : List ℕ) (c : ℕ) → is_operator c ≡ false
+no_front_after : (x : ℕ) (xs : List ℕ) (w : List ℕ) (c : ℕ) → is_operator c ≡ false
     → all_operators (drop 1 w) ≡ true → is_front ((x ∷ xs) ++ (c ∷ [])) w ≡ false
-no_front_behind x xs [] c n h = refl
-no_front_behind x xs (y ∷ ys) c n h = rw (no_front xs ys c n h) (and_false (x == y))
+no_front_after x xs [] c n h = refl
+no_front_after x xs (y ∷ ys) c n h = rw (no_front xs ys c n h) (and_false (x == y))
   where
     and_false : (b : Bool) → (b && false) ≡ false
     and_false true = refl
@@ -268,7 +268,7 @@ none_goes_on : (x : ℕ) (xs : List ℕ) (c : ℕ) (es : List (List ℕ × ℕ))
 none_goes_on x xs c [] n h = refl
 none_goes_on x xs c (e ∷ es) n h =
     let parts = and_parts (all_operators (drop 1 e.0)) (go_on_with_operators es) h in
-    rw (no_front_behind x xs e.0 c n parts.0) (none_goes_on x xs c es n parts.1)
+    rw (no_front_after x xs e.0 c n parts.0) (none_goes_on x xs c es n parts.1)
 
 pub goes_on-no_operator : (x : ℕ) (xs : List ℕ) (c : ℕ) → is_operator c ≡ false → goes_on (x ∷ xs) c ≡ false
 goes_on-no_operator x xs c n = none_goes_on x xs c symbols n refl

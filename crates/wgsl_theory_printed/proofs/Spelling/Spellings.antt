@@ -34,16 +34,16 @@ EndsBefore w (c ∷ cs) = EndsAt w c
 record Longer (w rest v u : List ℕ) : Type 0 where
   pub more : List ℕ
   pub front : v ≡ w ++ more
-  pub behind : rest ≡ more ++ u
+  pub following : rest ≡ more ++ u
 
 longer : (w rest v u : List ℕ) → w ++ rest ≡ v ++ u → length w ≤ length v → Longer w rest v u
-longer [] rest v u e l = record { more = v; front = refl; behind = e }
+longer [] rest v u e l = record { more = v; front = refl; following = e }
 longer (c ∷ w) rest [] u e l = absurd (omega (arith, l))
 longer (c ∷ w) rest (d ∷ v) u e l =
     let head : c ≡ d = cc in
     let tail : w ++ rest ≡ v ++ u = cc in
     let m = longer w rest v u tail (omega (arith, l)) in
-    record { more = m.more; front = ap₂ (λ (x : ℕ) (xs : List ℕ). x ∷ xs) (sym head) m.front; behind = m.behind }
+    record { more = m.more; front = ap₂ (λ (x : ℕ) (xs : List ℕ). x ∷ xs) (sym head) m.front; following = m.following }
 
 no_more : (w more u rest : List ℕ) → rest ≡ more ++ u → EndsBefore w rest
     → spells spelling (w ++ more) ≡ true → more ≡ []
@@ -61,9 +61,9 @@ after_word w rest h k = go (after_longest (spells spelling) (w ++ rest))
     go None f = absurd (f w rest refl h)
     go (Some u) (v, i) =
         let m = longer w rest v u i.whole (i.longest w rest refl h) in
-        let none = no_more w m.more u rest m.behind k
+        let none = no_more w m.more u rest m.following k
         (subst (λ (x : List ℕ). spells spelling x ≡ true) m.front i.passes) in
-        ap Some (sym (m.behind ∙ ap (λ (x : List ℕ). x ++ u) none))
+        ap Some (sym (m.following ∙ ap (λ (x : List ℕ). x ++ u) none))
 
 -- the token at the front of a text that begins with a spelling
 pub spelling_at : (c : ℕ) (cs rest : List ℕ) (k : Kind) → spells spelling (c ∷ cs) ≡ true

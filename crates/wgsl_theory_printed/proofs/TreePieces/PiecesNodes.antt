@@ -1,4 +1,5 @@
--- Written by tools/tables/tree_pieces.py from wgsl_model: the pieces of printed statements, some levels of
+-- Written by tools/tables/tree_pieces.py from wgsl_model: the pieces of printed statements, some
+-- levels of
 -- indentation deep and before the pieces that follow: they print them and have their tokens.
 use Rattle.std.proofs.Common.{cond, suc, ◌++◌, ◌∷◌}
 use Rattle.std.specs.List.{flat_map}

@@ -15,7 +15,7 @@ use Rattle.wgsl_model.specs.Printed.Joining.{joined}
 use Rattle.wgsl_model.specs.Printed.Expressions.{print_type}
 use Rattle.wgsl_model.specs.Printed.Attributes.{print_sampling, print_further, print_arguments, print_attribute, print_attributes}
 use Rattle.wgsl_theory_reread.specs.CanonicalExpressions.{Writer, optional_tokens, list_tokens, further_tokens, word_token, expression_node_tokens}
-use Rattle.wgsl_theory_reread.specs.CanonicalAttributes.{behind_comma, rule_tokens_from, rule_tokens, further_types_tokens, types_tokens, arguments_tokens, named_attribute_tokens, attributes_tokens}
+use Rattle.wgsl_theory_reread.specs.CanonicalAttributes.{after_comma, rule_tokens_from, rule_tokens, further_types_tokens, types_tokens, arguments_tokens, named_attribute_tokens, attributes_tokens}
 use Rattle.wgsl_theory_printed.proofs.Spelling.Pieces.{space}
 use Rattle.wgsl_theory_printed.proofs.TreePieces.Printing.{Puts, Prints, none_prints, ◌before◌, word_prints, space_prints}
 use Rattle.wgsl_theory_printed.proofs.TreePieces.PiecesOfExpressions.{sign, name, comma, expression_node_pieces, type_pieces, name_prints, comma_prints, expression_node_prints, type_prints}
@@ -50,9 +50,9 @@ list_prints one (a ∷ more) = one a before further_prints one more
 
 -- ---- the pieces
 
--- a part behind a comma
-abbrev pub behind_comma_pieces : {A : Type 0} → (A → Puts) → A → Puts
-behind_comma_pieces put a rest = comma (put a rest)
+-- a part after a comma
+abbrev pub after_comma_pieces : {A : Type 0} → (A → Puts) → A → Puts
+after_comma_pieces put a rest = comma (put a rest)
 
 -- the name of a rule, from the bytes that are before and those that are left: a word, or two with
 -- `.` between
@@ -66,7 +66,7 @@ rule_pieces_from before_it (c ∷ cs) rest = cond (c == 46)
 abbrev pub rule_pieces : List ℕ → Puts
 rule_pieces rule rest = rule_pieces_from [] rule rest
 
--- further types, each behind `|`
+-- further types, each after `|`
 abbrev pub further_types_pieces : List TypeExpression → Puts
 further_types_pieces [] rest = rest
 further_types_pieces (t ∷ ts) rest = space
@@ -94,12 +94,12 @@ named_attribute_pieces (diagnostic d) rest =
     (comma (rule_pieces d.rule (sign (codes ")") SymParenRight rest)))))
 named_attribute_pieces (interpolate i) rest =
     name (codes "interpolate") (sign (codes "(") SymParenLeft (name (interpolation_type_text i.ty)
-    (optional_pieces (behind_comma_pieces (λ (s : InterpolationSampling).
+    (optional_pieces (after_comma_pieces (λ (s : InterpolationSampling).
     name (interpolation_sampling_text s))) i.sampling (sign (codes ")") SymParenRight rest))))
 named_attribute_pieces (workgroup_size w) rest =
     name (codes "workgroup_size") (sign (codes "(") SymParenLeft (expression_node_pieces w.x
-    (optional_pieces (behind_comma_pieces expression_node_pieces) w.y (optional_pieces
-    (behind_comma_pieces expression_node_pieces) w.z (sign (codes ")") SymParenRight rest)))))
+    (optional_pieces (after_comma_pieces expression_node_pieces) w.y (optional_pieces
+    (after_comma_pieces expression_node_pieces) w.z (sign (codes ")") SymParenRight rest)))))
 named_attribute_pieces (type_constraint t) rest = name (codes "type") (sign (codes "(") SymParenLeft
     (name t.ident (comma (types_pieces t.variants (sign (codes ")") SymParenRight rest)))))
 named_attribute_pieces (custom c) rest = name c.name (optional_pieces arguments_pieces c.arguments rest)
@@ -108,12 +108,12 @@ named_attribute_pieces (custom c) rest = name c.name (optional_pieces arguments_
 abbrev pub attribute_pieces : Spanned Attribute → Puts
 attribute_pieces a rest = sign (codes "@") SymAttr (named_attribute_pieces a.node rest)
 
--- further attributes, each behind a space
+-- further attributes, each after a space
 abbrev pub further_attributes_pieces : Attributes → Puts
 further_attributes_pieces [] rest = rest
 further_attributes_pieces (a ∷ more) rest = space ∷ attribute_pieces a (further_attributes_pieces more rest)
 
--- attributes with a space between each two, and an end behind them if there are any
+-- attributes with a space between each two, and an end after them if there are any
 abbrev pub attributes_pieces : Puts → Attributes → Puts
 attributes_pieces end [] rest = rest
 attributes_pieces end (a ∷ more) rest = attribute_pieces a (further_attributes_pieces more (end rest))
@@ -162,14 +162,14 @@ arguments_prints (Some es) = word_prints before list_prints expression_node_prin
 
 sampling_prints : {n : ℕ} (o : Option InterpolationSampling)
     → Prints n (print_sampling o) (optional_pieces
-    (behind_comma_pieces (λ (s : InterpolationSampling). name (interpolation_sampling_text s))) o)
-    (optional_tokens (behind_comma (λ (s : InterpolationSampling). word_token (interpolation_sampling_text s))) o)
+    (after_comma_pieces (λ (s : InterpolationSampling). name (interpolation_sampling_text s))) o)
+    (optional_tokens (after_comma (λ (s : InterpolationSampling). word_token (interpolation_sampling_text s))) o)
 sampling_prints None = none_prints
 sampling_prints (Some s) = comma_prints before name_prints (interpolation_sampling_text s)
 
 size_prints : {n : ℕ} (o : Option ExpressionNode)
-    → Prints n (print_further o) (optional_pieces (behind_comma_pieces expression_node_pieces) o)
-    (optional_tokens (behind_comma expression_node_tokens) o)
+    → Prints n (print_further o) (optional_pieces (after_comma_pieces expression_node_pieces) o)
+    (optional_tokens (after_comma expression_node_tokens) o)
 size_prints None = none_prints
 size_prints (Some e) = comma_prints before expression_node_prints e
 

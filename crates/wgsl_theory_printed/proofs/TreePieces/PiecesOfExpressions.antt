@@ -70,7 +70,7 @@ abbrev mutual
   expressions_pieces no_expressions rest = rest
   expressions_pieces (expression_before e es) rest = expression_node_pieces e (further_expressions_pieces es rest)
 
-  -- further expressions, each behind a comma
+  -- further expressions, each after a comma
   pub further_expressions_pieces : ExpressionNodes → List Piece → List Piece
   further_expressions_pieces no_expressions rest = rest
   further_expressions_pieces (expression_before e es) rest =

@@ -13,12 +13,12 @@ use Rattle.wgsl_model.specs.Trees.Statements.{DeclarationKind, const_kind, overr
 use Rattle.wgsl_model.specs.Printed.Declarations.{print_access_mode, print_var_template, print_kind, print_typed, print_initializer, unended_declaration, unended_assert, print_condition, print_returned, print_selector, unended_assignment, unended_increment, unended_decrement, unended_return, unended_call}
 use Rattle.wgsl_model.specs.Printed.Statements.{break_if_line}
 use Rattle.wgsl_theory_reread.specs.CanonicalExpressions.{optional_tokens, word_token, expression_node_tokens, list_tokens, call_tokens}
-use Rattle.wgsl_theory_reread.specs.CanonicalAttributes.{behind_comma, attributes_tokens}
+use Rattle.wgsl_theory_reread.specs.CanonicalAttributes.{after_comma, attributes_tokens}
 use Rattle.wgsl_theory_reread.specs.CanonicalStatements.{var_template_tokens, kind_tokens, typed_tokens, initializer_tokens, declaration_tokens, assert_tokens, assignment_operator_class, selector_tokens, break_if_tokens}
 use Rattle.wgsl_theory_printed.proofs.Spelling.Pieces.{space, opens, closes}
 use Rattle.wgsl_theory_printed.proofs.TreePieces.Printing.{Puts, Prints, none_prints, ◌before◌, word_prints, space_prints, opens_prints, closes_prints, four, line, line_prints, indented_prints}
 use Rattle.wgsl_theory_printed.proofs.TreePieces.PiecesOfExpressions.{sign, name, expression_node_pieces, call_pieces, type_pieces, name_prints, comma_prints, expression_node_prints, type_prints, call_prints}
-use Rattle.wgsl_theory_printed.proofs.TreePieces.PiecesOfAttributes.{optional_pieces, behind_comma_pieces, list_pieces, attributes_pieces, list_prints, attributes_print}
+use Rattle.wgsl_theory_printed.proofs.TreePieces.PiecesOfAttributes.{optional_pieces, after_comma_pieces, list_pieces, attributes_pieces, list_prints, attributes_print}
 use Rattle.std.specs.List.{flat_map}
 use Rattle.wgsl_model.specs.Trees.Attributes.{Attributes}
 use Rattle.wgsl_model.specs.Printed.Joining.{joined}
@@ -31,7 +31,7 @@ use Rattle.wgsl_model.proofs.Filled.{left_filled, right_filled, IsFilled}
 -- the template of a `var`
 abbrev pub var_template_pieces : AddressSpace × Option AccessMode → Puts
 var_template_pieces p rest = opens ∷ name (address_space_text p.0) (optional_pieces
-    (behind_comma_pieces (λ (m : AccessMode). name (access_mode_text m))) p.1 (closes ∷ rest))
+    (after_comma_pieces (λ (m : AccessMode). name (access_mode_text m))) p.1 (closes ∷ rest))
 
 -- the keyword of a kind of value, and the template of a `var`
 abbrev pub kind_pieces : DeclarationKind → Puts
@@ -40,11 +40,11 @@ kind_pieces override_kind rest = sign (codes "override") KwOverride rest
 kind_pieces let_kind rest = sign (codes "let") KwLet rest
 kind_pieces (var_kind space_of) rest = sign (codes "var") KwVar (optional_pieces var_template_pieces space_of rest)
 
--- a type behind a colon
+-- a type after a colon
 abbrev pub typed_pieces : TypeExpression → Puts
 typed_pieces t rest = sign (codes ":") SymColon (space ∷ type_pieces t rest)
 
--- a value behind an equals sign
+-- a value after an equals sign
 abbrev pub initializer_pieces : ExpressionNode → Puts
 initializer_pieces e rest = space ∷ sign (codes "=") SymEqual (space ∷ expression_node_pieces e rest)
 
@@ -96,8 +96,8 @@ call_statement_pieces c rest = call_pieces c.call rest
 
 mode_prints : {n : ℕ} (o : Option AccessMode)
     → Prints n (print_access_mode o)
-    (optional_pieces (behind_comma_pieces (λ (m : AccessMode). name (access_mode_text m))) o)
-    (optional_tokens (behind_comma (λ (m : AccessMode). word_token (access_mode_text m))) o)
+    (optional_pieces (after_comma_pieces (λ (m : AccessMode). name (access_mode_text m))) o)
+    (optional_tokens (after_comma (λ (m : AccessMode). word_token (access_mode_text m))) o)
 mode_prints None = none_prints
 mode_prints (Some m) = comma_prints before name_prints (access_mode_text m)
 

@@ -25,7 +25,7 @@ use Rattle.wgsl_theory_printed.proofs.TreePieces.PiecesNodes.{compound_pieces, c
 
 -- ---- the pieces
 
--- what stands behind the attributes of a directive
+-- what is after the attributes of a directive
 abbrev pub unattributed_directive_pieces : UnattributedDirective → Puts
 unattributed_directive_pieces (diagnostic d) rest =
     sign (codes "diagnostic") KwDiagnostic
@@ -49,7 +49,7 @@ attributed_pieces end attributes ident ty rest = attributes_pieces end attribute
 abbrev pub member_pieces : Spanned StructMember → Puts
 member_pieces m rest = attributed_pieces (line 1) m.node.attributes m.node.ident m.node.ty rest
 
--- further members, each behind a comma and on a line of its own
+-- further members, each after a comma and on a line of its own
 abbrev pub further_members_pieces : List (Spanned StructMember) → Puts
 further_members_pieces [] rest = rest
 further_members_pieces (m ∷ ms) rest = sign (codes ",") SymComma
@@ -67,7 +67,7 @@ one_space rest = space ∷ rest
 abbrev pub parameter_pieces : FormalParameter → Puts
 parameter_pieces p rest = attributed_pieces one_space p.attributes p.ident p.ty rest
 
--- what a function returns, behind its arrow, if it is there
+-- what a function returns, after its arrow, if it is there
 abbrev pub result_pieces : Attributes → Option TypeExpression → Puts
 result_pieces attributes None rest = rest
 result_pieces attributes (Some t) rest = sign (codes "->") SymArrow
@@ -81,7 +81,7 @@ function_pieces f rest =
     (sign (codes ")") SymParenRight
     (space ∷ result_pieces f.return_attributes f.return_type (compound_pieces 0 f.body rest))))))
 
--- what stands behind the attributes of a declaration; an empty one is its `;`
+-- what is after the attributes of a declaration; an empty one is its `;`
 abbrev pub unattributed_declaration_pieces : UnattributedDeclaration → Puts
 unattributed_declaration_pieces void rest = sign (codes ";") SymSemicolon rest
 unattributed_declaration_pieces (declaration d) rest = declaration_pieces d (sign (codes ";") SymSemicolon rest)
@@ -101,7 +101,7 @@ global_declaration_pieces d rest = attributes_pieces (line 0) d.attributes (unat
 abbrev pub two_lines : Puts
 two_lines rest = line 0 (line 0 rest)
 
--- the declarations that are not empty, the first one behind what is given and the others behind an
+-- the declarations that are not empty, the first one after what is given and the others after an
 -- empty line
 abbrev pub declarations_pieces : Puts → List (Spanned GlobalDeclaration) → Puts
 declarations_pieces start [] rest = rest
@@ -113,7 +113,7 @@ abbrev pub further_directives_pieces : List GlobalDirective → Puts
 further_directives_pieces [] rest = rest
 further_directives_pieces (d ∷ ds) rest = line 0 (directive_pieces d (further_directives_pieces ds rest))
 
--- directives, and an empty line behind them if there are any
+-- directives, and an empty line after them if there are any
 abbrev pub directives_pieces : List GlobalDirective → Puts
 directives_pieces [] rest = rest
 directives_pieces (d ∷ ds) rest = directive_pieces d (further_directives_pieces ds (two_lines rest))

@@ -9,11 +9,11 @@ use Rattle.wgsl_theory_printed.proofs.Spelling.Pieces.{Piece, space, line_end, o
 
 -- ---- indented texts
 
--- four spaces behind each line end
+-- four spaces after each line end
 abbrev pub pushed : List ℕ → List ℕ
 pushed = after_line_ends (codes "    ")
 
--- the same so many times
+-- the same a number of times
 abbrev pub deep : ℕ → List ℕ → List ℕ
 deep zero text = text
 deep (suc n) text = deep n (pushed text)
@@ -54,8 +54,8 @@ abbrev pub line : ℕ → Puts
 line zero rest = line_end ∷ rest
 line (suc n) rest = line n (four rest)
 
--- where pieces fit, their bytes are the text with so many levels of indentation, and the kinds of
--- their tokens are those that are written
+-- where pieces fit, their bytes are the text with a number of levels of indentation, and the kinds
+-- of their tokens are those that are written
 pub record Prints (n : ℕ) (text : List ℕ) (put : Puts) (write : List Kind → List Kind) : Type 0 where
   pub bytes : (rest : List Piece) → Fits (put rest) → (bytes_of (put rest) ≡ deep n text ++ bytes_of rest) × Fits rest
   pub tokens : (rest : List Piece) → kinds (put rest) ≡ write (kinds rest)

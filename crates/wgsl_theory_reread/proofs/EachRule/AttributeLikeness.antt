@@ -36,16 +36,16 @@ rule_name_in_alike e = refl
 rule_name_alike : (e : ExpressionNode) → rule_name (bare_expression_node e) ≡ rule_name e
 rule_name_alike (expression_node e s) = rule_name_in_alike e
 
-map_behind : (ts : List TypeExpression) (t : TypeExpression)
+map_after : (ts : List TypeExpression) (t : TypeExpression)
     → map bare_type (ts ++ (t ∷ [])) ≡ map bare_type ts ++ (bare_type t ∷ [])
-map_behind [] t = refl
-map_behind (x ∷ ts) t = ap (λ (z : List TypeExpression). bare_type x ∷ z) (map_behind ts t)
+map_after [] t = refl
+map_after (x ∷ ts) t = ap (λ (z : List TypeExpression). bare_type x ∷ z) (map_after ts t)
 
 one_more : (t : TypeExpression) (o m : Option (List TypeExpression)) → o ≡ option_map (map bare_type) m
     → option_map (λ (ts : List TypeExpression). ts ++ (bare_type t ∷ [])) o
     ≡ option_map (map bare_type) (option_map (λ (ts : List TypeExpression). ts ++ (t ∷ [])) m)
 one_more t o None h = rw h refl
-one_more t o (Some ts) h = rw h (ap (λ (z : List TypeExpression). Some z) (sym (map_behind ts t)))
+one_more t o (Some ts) h = rw h (ap (λ (z : List TypeExpression). Some z) (sym (map_after ts t)))
 
 variants_in_alike : (e : Expression) → variants_in (bare_expression e) ≡ option_map (map bare_type) (variants_in e)
 variants_in_alike (type_or_identifier t) = refl

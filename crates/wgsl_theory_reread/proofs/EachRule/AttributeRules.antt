@@ -118,7 +118,7 @@ attribute_node_reads = record {
 }
 
 -- ---- `var` templates
--- what a check of a template answers has no spans
+-- what a check of a template returns has no spans
 fault_alike : (v : Option (List ExpressionNode)) (span : Span) → var_fault (same_arguments v) span ≡ var_fault v span
 fault_alike None span = refl
 fault_alike (Some es) span = ap (λ (z : Checked (AddressSpace × Option AccessMode)). fault_in z

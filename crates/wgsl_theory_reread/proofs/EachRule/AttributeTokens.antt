@@ -18,10 +18,10 @@ use Rattle.wgsl_theory_reread.proofs.Names.NamedWords.{bare_name_tokens, severit
 use Rattle.wgsl_theory_reread.proofs.Names.RuleNames.{PlainArguments, rule_name_tokens}
 
 -- ---- types with `|` between each two
-further_behind : (ts : List TypeExpression) (t : TypeExpression) (rest : List Kind)
+further_after : (ts : List TypeExpression) (t : TypeExpression) (rest : List Kind)
     → further_types_tokens (ts ++ (t ∷ [])) rest ≡ further_types_tokens ts (plain SymOr ∷ type_tokens t rest)
-further_behind [] t rest = refl
-further_behind (x ∷ ts) t rest = ap (λ (z : List Kind). plain SymOr ∷ type_tokens x z) (further_behind ts t rest)
+further_after [] t rest = refl
+further_after (x ∷ ts) t rest = ap (λ (z : List Kind). plain SymOr ∷ type_tokens x z) (further_after ts t rest)
 
 -- there is one at least, and they are written as their expression
 record WritesTypes (e : Expression) (types : List TypeExpression) : Type 0 where
@@ -55,7 +55,7 @@ variants_in_tokens (binary bitwise_or (expression_node left s) (expression_node 
           whole = longer;
           tokens = λ rest. found.tokens (plain SymOr ∷ type_tokens t rest)
               ∙ ap (λ (z : List TypeExpression). types_tokens z (plain SymOr ∷ type_tokens t rest)) found.whole
-              ∙ ap (λ (z : List Kind). type_tokens found.first z) (sym (further_behind found.others t rest))
+              ∙ ap (λ (z : List Kind). type_tokens found.first z) (sym (further_after found.others t rest))
               ∙ ap (λ (z : List TypeExpression). types_tokens z rest) (sym longer);
         }
 variants_in_tokens e types h = absurd (cc)

@@ -21,7 +21,7 @@ use Rattle.wgsl_theory_reread.specs.CanonicalExpressions.{Writer, optional_token
 use Rattle.wgsl_theory_reread.specs.CanonicalUnits.{without_place}
 use Rattle.wgsl_theory_reread.proofs.Words.{NoPeriod, AllWords}
 use Rattle.wgsl_theory_reread.proofs.Again.{D, Again, write, Same, Finds, FindsComponent, template_list_tokens}
-use Rattle.wgsl_theory_reread.proofs.Ways.{Outcome, Reads, found_as, found_in, first_of, class_of, words_behind, equal_reads, then_reads, or_reads, makes_reads, before_reads, behind_reads, means_reads, optional_reads, chain_reads}
+use Rattle.wgsl_theory_reread.proofs.Ways.{Outcome, Reads, found_as, found_in, first_of, class_of, words_after, equal_reads, then_reads, or_reads, makes_reads, before_reads, after_reads, means_reads, optional_reads, chain_reads}
 use Rattle.wgsl_theory_reread.proofs.Rules.{rolled, symbol_reads}
 
 -- ---- names
@@ -129,7 +129,7 @@ literal_again l t e =
 pub literal_reads : Reads (written literal) (write literal) (Same literal)
 literal_reads = record {
   again = λ v xs ys d words. (
-    words_behind d.0 xs ys d.2.1 words,
+    words_after d.0 xs ys d.2.1 words,
     λ us ks e.
         let first = first_of (literal_token v) ks us e in
         let known = literal_again v first.token first.kind in
@@ -151,7 +151,7 @@ same_node w v = bare_expression_node w ≡ bare_expression_node v
 abbrev pub same_expression : Expression → Expression → Type 0
 same_expression w v = bare_expression w ≡ bare_expression v
 
--- an expression and where it stands
+-- an expression and where it is
 pub node_reads : {g : Rule Expression} → Reads g expression_tokens same_expression
     → Reads (g makes placed_expression) expression_node_tokens same_node
 node_reads G = makes_reads G (λ a span rest. refl) (λ w a s r h. λ i. expression_node (h i) no_span)
@@ -159,7 +159,7 @@ node_reads G = makes_reads G (λ a span rest. refl) (λ w a s r h. λ i. express
 -- an index, and a name
 index_reads : Reads (SymBracketLeft ▹ symbol expression ◃ SymBracketRight)
     (λ e rest. plain SymBracketLeft ∷ expression_node_tokens e (plain SymBracketRight ∷ rest)) same_node
-index_reads = before_reads SymBracketLeft refl (behind_reads SymBracketRight refl (symbol_reads expression))
+index_reads = before_reads SymBracketLeft refl (after_reads SymBracketRight refl (symbol_reads expression))
 
 name_reads : Reads (SymPeriod ▹ symbol ident)
     (λ t rest. plain SymPeriod ∷ (kind_of_word (text_of t) ∷ rest)) (Same ident)
@@ -192,7 +192,7 @@ component_rule v xs ys (inr d) words =
       ),
     )
 
--- components behind an expression
+-- components after an expression
 pub components_reads : {g : Rule ExpressionNode} → Reads g expression_node_tokens same_node
     → Reads (left_chain with_component g (symbol component)) expression_node_tokens same_node
 components_reads {g} G = record { again = λ v xs ys d words. go xs v ys d words } where
@@ -207,9 +207,9 @@ components_reads {g} G = record { again = λ v xs ys d words. go xs v ys d words
       let last = d before.0 in (
         last.0,
         λ us ks e.
-            let behind = last.2 ks in
-            let x = before.1 us behind.0 (e ∙ behind.1 a) in
-            let y = behind.2 x.rest x.kinds in
+            let following = last.2 ks in
+            let x = before.1 us following.0 (e ∙ following.1 a) in
+            let y = following.2 x.rest x.kinds in
             record {
               value = with_component x.value y.value (span_between us y.rest);
               rest = y.rest;
@@ -253,7 +253,7 @@ multiplicative_operator_reads : Reads multiplicative_operator operator_tokens sa
 multiplicative_operator_reads = or_reads (sign_reads multiplication refl)
     (or_reads (sign_reads division refl) (sign_reads remainder refl))
 
--- an operator and an operand behind an operand
+-- an operator and an operand after an operand
 abbrev pub Operand : Type 0
 Operand = BinaryOperator × ExpressionNode
 
@@ -293,7 +293,7 @@ negation_again : (operand : ExpressionNode) (span : Span) (xs ys : List Token)
     → Means checking Again (SymMinusMinus ▹ symbol unary_expression) operand xs ys → AllWords xs
     → Negated (negation_of operand span) ys
 negation_again operand span xs ys d words =
-    let found = d.2.2 (words_behind d.0.0 xs d.2.0 d.2.1.1 words) in
+    let found = d.2.2 (words_after d.0.0 xs d.2.0 d.2.1.1 words) in
     subst (λ (z : ExpressionNode). Negated (negation_of z span) ys) d.1 (
       found.0,
       λ us ks e.
@@ -351,7 +351,7 @@ negated_expression_rule v xs ys d words =
     let found = negated_again xs v ys d words in
     (found.0, tt, λ us ks e. rolled {n = multiplicative_expression} (found.1 us ks e))
 
--- an operand of a sum, where a negated product stands behind a minus
+-- an operand of a sum, where a negated product is after a minus
 abbrev addend : Rule Operand
 addend = additive_operator then symbol multiplicative_expression
     or symbol negated_expression gives λ e. (subtraction, e)
@@ -406,5 +406,5 @@ open_left_side_reads = or_reads (components_reads (makes_reads (symbol_reads ide
 pub parenthesized_left_side_reads : Reads parenthesized_left_side expression_node_tokens same_node
 parenthesized_left_side_reads =
     components_reads (makes_reads (before_reads SymParenLeft refl
-    (behind_reads SymParenRight refl (symbol_reads lhs_expression))) (λ a span rest. refl)
+    (after_reads SymParenRight refl (symbol_reads lhs_expression))) (λ a span rest. refl)
     (λ w a s r h. λ i. expression_node (Expression.parenthesized (h i)) no_span))

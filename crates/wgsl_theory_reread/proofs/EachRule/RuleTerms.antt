@@ -20,7 +20,7 @@ use Rattle.wgsl_theory_reread.proofs.EachRule.StatementRules.{assert_reads, attr
 use Rattle.wgsl_theory_reread.proofs.EachRule.UnitParts.{attributed_ident_reads, names_read}
 use Rattle.wgsl_theory_reread.proofs.EachRule.UnitRules.{declaration_reads, diagnostic_directive_reads, directive_reads, function_declaration_reads, placed_declaration_reads, unit_reads}
 use Rattle.wgsl_theory_reread.proofs.Rules.{IsRead, attributes_read, initializer_reads, symbol_reads, var_kind_reads}
-use Rattle.wgsl_theory_reread.proofs.Ways.{Reads, before_reads, behind_reads, gives_reads, list_or_none_reads, list_reads, makes_reads, means_reads, optional_reads, or_reads, then_reads}
+use Rattle.wgsl_theory_reread.proofs.Ways.{Reads, after_reads, before_reads, gives_reads, list_or_none_reads, list_reads, makes_reads, means_reads, optional_reads, or_reads, then_reads}
 
 type_specifier_reads : Reads (written type_specifier) (write type_specifier) (Same type_specifier)
 type_specifier_reads =
@@ -30,7 +30,7 @@ type_specifier_reads =
 template_list_reads : Reads (written template_list) (write template_list) (Same template_list)
 template_list_reads =
     before_reads TemplateArgsStart refl
-    (behind_reads TemplateArgsEnd refl
+    (after_reads TemplateArgsEnd refl
     (list_reads {bare = bare_expression_node} {kept = bare_expression_node}
     (symbol_reads expression)))
 
@@ -46,7 +46,7 @@ call_reads =
 arguments_reads : Reads (written arguments) (write arguments) (Same arguments)
 arguments_reads =
     before_reads SymParenLeft refl
-    (behind_reads SymParenRight refl
+    (after_reads SymParenRight refl
     (list_or_none_reads {bare = bare_expression_node} {kept = bare_expression_node}
     (symbol_reads expression)))
 
@@ -60,7 +60,7 @@ primary_expression_reads =
     (or_reads (gives_reads (symbol_reads literal) (λ a rest. refl)
     (λ w a h. λ i. expression_trees.literal (h i)))
     (gives_reads
-    (before_reads SymParenLeft refl (behind_reads SymParenRight refl (symbol_reads expression)))
+    (before_reads SymParenLeft refl (after_reads SymParenRight refl (symbol_reads expression)))
     (λ a rest. refl) (λ w a h. λ i. expression_trees.parenthesized (h i))))))
 
 singular_expression_reads :
@@ -129,7 +129,7 @@ compound_statement_reads :
     Reads (written compound_statement) (write compound_statement) (Same compound_statement)
 compound_statement_reads =
     gives_reads (then_reads (attributes_read attribute_node_reads)
-    (before_reads SymBraceLeft refl (behind_reads SymBraceRight refl statements_read)))
+    (before_reads SymBraceLeft refl (after_reads SymBraceRight refl statements_read)))
     (λ a rest. refl) (λ w a h. λ i. statement_trees.compound_statement (h.0 i) (h.1 i))
 
 statement_reads : Reads (written statement) (write statement) (Same statement)
@@ -151,7 +151,7 @@ statement_reads =
     (or_reads (ended_reads {g = symbol phony_assignment} (λ v xs ys h. h))
     (or_reads (ended_reads {g = symbol increment} (λ v xs ys h. h))
     (or_reads (ended_reads {g = symbol decrement} (λ v xs ys h. h))
-    (or_reads block_reads (gives_reads (behind_reads SymSemicolon refl (symbol_reads const_assert))
+    (or_reads block_reads (gives_reads (after_reads SymSemicolon refl (symbol_reads const_assert))
     (λ a rest. refl) (λ w a h. λ i. statement_trees.as_statement statement_trees.const_assert
     (h i)))))))))))))))))))))
 
@@ -181,7 +181,7 @@ switch_statement_reads =
     (gives_reads (before_reads KwSwitch refl
     (then_reads (symbol_reads expression)
     (then_reads (attributes_read attribute_node_reads)
-    (before_reads SymBraceLeft refl (behind_reads SymBraceRight refl clauses_read)))))
+    (before_reads SymBraceLeft refl (after_reads SymBraceRight refl clauses_read)))))
     (λ a rest. refl) (λ w a h. λ i. statement_trees.switch_statement
     (statement_trees.switch (h.0 i) (h.1.0 i) (h.1.1 i))))
 
@@ -191,7 +191,7 @@ loop_statement_reads =
     (gives_reads (before_reads KwLoop refl
     (then_reads (attributes_read attribute_node_reads)
     (before_reads SymBraceLeft refl
-    (behind_reads SymBraceRight refl (then_reads statements_read maybe_continuing_reads)))))
+    (after_reads SymBraceRight refl (then_reads statements_read maybe_continuing_reads)))))
     (λ a rest. refl) (λ w a h. λ i. statement_trees.loop_statement
     (statement_trees.repeat (statement_trees.compound_statement (h.0 i) (h.1.0 i)) (h.1.1 i))))
 
@@ -200,11 +200,11 @@ for_statement_reads =
     attributed_reads attribute_node_reads
     (gives_reads (before_reads KwFor refl
     (before_reads SymParenLeft refl
-    (then_reads (behind_reads SymSemicolon refl (part_reads (symbol_reads for_init)))
-    (then_reads (behind_reads SymSemicolon refl
+    (then_reads (after_reads SymSemicolon refl (part_reads (symbol_reads for_init)))
+    (then_reads (after_reads SymSemicolon refl
     (optional_reads {bare = bare_expression_node} {kept = bare_expression_node}
     (symbol_reads expression))) (then_reads
-    (behind_reads SymParenRight refl (part_reads (symbol_reads for_update)))
+    (after_reads SymParenRight refl (part_reads (symbol_reads for_update)))
     (symbol_reads compound_statement)))))) (λ a rest. refl)
     (λ w a h. λ i. statement_trees.for_statement
     (statement_trees.repeat_for (h.0 i) (h.1.0 i) (h.1.1.0 i) (h.1.1.1 i))))
@@ -273,13 +273,13 @@ phony_assignment_reads =
 
 increment_reads : Reads (written increment) (write increment) (Same increment)
 increment_reads =
-    gives_reads (behind_reads SymPlusPlus refl (left_side_reads attribute_node_reads))
+    gives_reads (after_reads SymPlusPlus refl (left_side_reads attribute_node_reads))
     (λ a rest. refl) (λ w a h. λ i. statement_trees.statement (h.0 i)
     (statement_trees.increment (record { expression = h.1 i })))
 
 decrement_reads : Reads (written decrement) (write decrement) (Same decrement)
 decrement_reads =
-    gives_reads (behind_reads SymMinusMinus refl (left_side_reads attribute_node_reads))
+    gives_reads (after_reads SymMinusMinus refl (left_side_reads attribute_node_reads))
     (λ a rest. refl) (λ w a h. λ i. statement_trees.statement (h.0 i)
     (statement_trees.decrement (record { expression = h.1 i })))
 
@@ -301,7 +301,7 @@ continuing_statement_reads =
     (gives_reads (before_reads KwContinuing refl
     (then_reads (attributes_read attribute_node_reads)
     (before_reads SymBraceLeft refl
-    (behind_reads SymBraceRight refl
+    (after_reads SymBraceRight refl
     (then_reads statements_read (optional_reads {bare = bare_attributed bare_break_if}
     {kept = bare_attributed bare_break_if} (break_if_reads attribute_node_reads)))))))
     (λ a rest. refl)
@@ -354,7 +354,7 @@ global_declaration_reads =
     (or_reads (symbol_reads alias_declaration)
     (or_reads (symbol_reads struct_declaration)
     (or_reads (symbol_reads function_declaration)
-    (gives_reads (behind_reads SymSemicolon refl (symbol_reads const_assert)) (λ a rest. refl)
+    (gives_reads (after_reads SymSemicolon refl (symbol_reads const_assert)) (λ a rest. refl)
     (λ w a h. λ i. unit_trees.as_declaration unit_trees.const_assert (h i))))))))))
 
 var_declaration_reads :
@@ -363,7 +363,7 @@ var_declaration_reads =
     declaration_reads attribute_node_reads
     (gives_reads (then_reads var_kind_reads
     (then_reads (symbol_reads typed_ident)
-    (behind_reads SymSemicolon refl
+    (after_reads SymSemicolon refl
     (optional_reads {bare = bare_expression_node} {kept = bare_expression_node}
     initializer_reads)))) (λ a rest. refl)
     (λ w a h. λ i. unit_trees.declaration
@@ -374,7 +374,7 @@ const_declaration_reads :
 const_declaration_reads =
     declaration_reads attribute_node_reads
     (gives_reads (before_reads KwConst refl
-    (then_reads (symbol_reads typed_ident) (behind_reads SymSemicolon refl initializer_reads)))
+    (then_reads (symbol_reads typed_ident) (after_reads SymSemicolon refl initializer_reads)))
     (λ a rest. refl) (λ w a h. λ i. unit_trees.declaration
     (record {
       kind = statement_trees.const_kind;
@@ -389,7 +389,7 @@ override_declaration_reads =
     declaration_reads attribute_node_reads
     (gives_reads (before_reads KwOverride refl
     (then_reads (symbol_reads typed_ident)
-    (behind_reads SymSemicolon refl
+    (after_reads SymSemicolon refl
     (optional_reads {bare = bare_expression_node} {kept = bare_expression_node}
     initializer_reads)))) (λ a rest. refl)
     (λ w a h. λ i. unit_trees.declaration
@@ -402,7 +402,7 @@ alias_declaration_reads =
     declaration_reads attribute_node_reads
     (gives_reads (before_reads KwAlias refl
     (then_reads (symbol_reads ident)
-    (before_reads SymEqual refl (behind_reads SymSemicolon refl (symbol_reads type_specifier)))))
+    (before_reads SymEqual refl (after_reads SymSemicolon refl (symbol_reads type_specifier)))))
     (λ a rest. refl) (λ w a h. λ i. unit_trees.type_alias (record { ident = h.0 i; ty = h.1 i })))
 
 struct_declaration_reads :
@@ -412,7 +412,7 @@ struct_declaration_reads =
     (gives_reads (before_reads KwStruct refl
     (then_reads (symbol_reads ident)
     (before_reads SymBraceLeft refl
-    (behind_reads SymBraceRight refl
+    (after_reads SymBraceRight refl
     (list_reads {bare = bare_spanned bare_member} {kept = bare_spanned bare_member}
     (symbol_reads struct_member)))))) (λ a rest. refl)
     (λ w a h. λ i. unit_trees.structure (record { ident = h.0 i; members = h.1 i })))
@@ -427,14 +427,14 @@ enable_directive_reads :
     Reads (written enable_directive) (write enable_directive) (Same enable_directive)
 enable_directive_reads =
     directive_reads attribute_node_reads
-    (gives_reads (before_reads KwEnable refl (behind_reads SymSemicolon refl names_read))
+    (gives_reads (before_reads KwEnable refl (after_reads SymSemicolon refl names_read))
     (λ a rest. refl) (λ w a h. λ i. unit_trees.enable (record { extensions = h i })))
 
 requires_directive_reads :
     Reads (written requires_directive) (write requires_directive) (Same requires_directive)
 requires_directive_reads =
     directive_reads attribute_node_reads
-    (gives_reads (before_reads KwRequires refl (behind_reads SymSemicolon refl names_read))
+    (gives_reads (before_reads KwRequires refl (after_reads SymSemicolon refl names_read))
     (λ a rest. refl) (λ w a h. λ i. unit_trees.requires (record { extensions = h i })))
 
 -- each rule of the grammar

@@ -20,7 +20,7 @@ use Rattle.wgsl_theory_reread.specs.CanonicalStatements.{assignment_operator_cla
 use Rattle.wgsl_theory_reread.specs.CanonicalUnits.{without_place}
 use Rattle.wgsl_theory_reread.proofs.Words.{AllWords}
 use Rattle.wgsl_theory_reread.proofs.Again.{D, header_tokens, seen_statement, write, Same, Found, Again}
-use Rattle.wgsl_theory_reread.proofs.Ways.{Outcome, Reads, found_in, then_reads, or_reads, gives_reads, equal_reads, before_reads, behind_reads, means_reads, none_reads, many_reads, several_reads}
+use Rattle.wgsl_theory_reread.proofs.Ways.{Outcome, Reads, found_in, then_reads, or_reads, gives_reads, equal_reads, before_reads, after_reads, means_reads, none_reads, many_reads, several_reads}
 use Rattle.wgsl_theory_reread.proofs.Rules.{AttributeReads, attributes_read, symbol_reads}
 
 -- ---- parts of one rule
@@ -32,7 +32,7 @@ bare_break_if_tokens b rest = plain KwBreak
 condition_reads : Reads (KwBreak ▹ KwIf ▹ symbol expression ◃ SymSemicolon gives break_if_of)
     bare_break_if_tokens (λ w v. bare_break_if w ≡ bare_break_if v)
 condition_reads = gives_reads (before_reads KwBreak refl
-    (before_reads KwIf refl (behind_reads SymSemicolon refl (symbol_reads expression))))
+    (before_reads KwIf refl (after_reads SymSemicolon refl (symbol_reads expression))))
     (λ a rest. refl) (λ w a h. λ i. record { expression = h i })
 
 pub break_if_reads : AttributeReads → Reads (break_if parsed) break_if_tokens
@@ -67,7 +67,7 @@ assignment_operator_reads = or_reads (operator_reads SymEqual refl refl)
     (or_reads (operator_reads SymXorEqual refl refl) (or_reads (operator_reads SymShiftRightAssign
     refl refl) (operator_reads SymShiftLeftAssign refl refl))))))))))
 
--- ---- parts that may be left out, as they stand in a tree
+-- ---- parts that may be left out, as they are in a tree
 pub else_reads : Reads (optional else_block) (λ v rest. else_tokens (else_of v) rest)
     (λ w v. bare_else (else_of w) ≡ bare_else (full_else (else_of v)))
 else_reads = or_reads (gives_reads else_block_reads (λ a rest. refl) (λ w a h. λ i. tree.one_else (h i)))
@@ -94,7 +94,7 @@ pub part_reads : {g : Rule StatementNode}
 part_reads G = or_reads (gives_reads G part_written (λ w a h. ap tree.one_statement h ∙ part_seen a))
     (none_reads (λ rest. refl) refl)
 
--- ---- lists, as they stand in a tree
+-- ---- lists, as they are in a tree
 pub else_ifs_written : (cs : List ElseIfClause) (rest : List Kind)
     → else_ifs_tokens (else_ifs_of cs) rest ≡ all_tokens else_if_clause_tokens cs rest
 else_ifs_written [] rest = refl
@@ -150,17 +150,17 @@ abbrev followed : StatementNodes → StatementNode → StatementNodes
 followed no_statements x = statement_before x no_statements
 followed (statement_before s ss) x = statement_before s (followed ss x)
 
-pub written_behind : (ss : List StatementNode) (x : StatementNode) (rest : List Kind)
+pub written_after : (ss : List StatementNode) (x : StatementNode) (rest : List Kind)
     → list_written (ss ++ (x ∷ [])) rest ≡ list_written ss (kept_tokens x rest)
-written_behind [] (statement_node s span) rest = refl
-written_behind (statement_node s span ∷ ss) x rest =
-    ap (λ z. if is_void s then z else unended_tokens s (end_token s z)) (written_behind ss x rest)
+written_after [] (statement_node s span) rest = refl
+written_after (statement_node s span ∷ ss) x rest =
+    ap (λ z. if is_void s then z else unended_tokens s (end_token s z)) (written_after ss x rest)
 
-bare_behind : (ss : List StatementNode) (x : StatementNode)
+bare_after : (ss : List StatementNode) (x : StatementNode)
     → bare_statements (statements_of (ss ++ (x ∷ [])))
     ≡ followed (bare_statements (statements_of ss)) (bare_statement_node x)
-bare_behind [] x = refl
-bare_behind (s ∷ ss) x = ap (statement_before (bare_statement_node s)) (bare_behind ss x)
+bare_after [] x = refl
+bare_after (s ∷ ss) x = ap (statement_before (bare_statement_node s)) (bare_after ss x)
 
 -- a statement before others, if it is not empty
 abbrev shown_before : Bool → StatementNode → StatementNodes → StatementNodes
@@ -178,20 +178,20 @@ shown_first s span ss = by_case (is_void s) where
   by_case true = refl
   by_case false = refl
 
-last_behind : (b c : Bool) (s x : StatementNode) (ss : StatementNodes)
+last_after : (b c : Bool) (s x : StatementNode) (ss : StatementNodes)
     → shown_before b s (shown_last c ss x) ≡ shown_last c (shown_before b s ss) x
-last_behind true c s x ss = refl
-last_behind false true s x ss = refl
-last_behind false false s x ss = refl
+last_after true c s x ss = refl
+last_after false true s x ss = refl
+last_after false false s x ss = refl
 
-shown_behind : (ss : List StatementNode) (s : Statement) (span : Span)
+shown_after : (ss : List StatementNode) (s : Statement) (span : Span)
     → shown (ss ++ (statement_node s span ∷ []))
     ≡ shown_last (is_void s) (shown ss) (seen_statement (statement_node s span))
-shown_behind [] s span = shown_first s span []
-shown_behind (statement_node t place ∷ ss) s span =
+shown_after [] s span = shown_first s span []
+shown_after (statement_node t place ∷ ss) s span =
     shown_first t place (ss ++ (statement_node s span ∷ []))
-    ∙ ap (shown_before (is_void t) (seen_statement (statement_node t place))) (shown_behind ss s span)
-    ∙ last_behind (is_void t) (is_void s) (seen_statement (statement_node t place))
+    ∙ ap (shown_before (is_void t) (seen_statement (statement_node t place))) (shown_after ss s span)
+    ∙ last_after (is_void t) (is_void s) (seen_statement (statement_node t place))
     (seen_statement (statement_node s span)) (shown ss)
     ∙ ap (λ z. shown_last (is_void s) z (seen_statement (statement_node s span))) (sym (shown_first t place ss))
 
@@ -204,7 +204,7 @@ one_more : (ss : List StatementNode) (s : Statement) (span : Span) (ys zs : List
     → ListOutcome (ss ++ (statement_node s span ∷ [])) zs
 one_more ss s span ys zs before last = (
   last.0,
-  λ us ks e. by_case us ks (is_void s) (shown_behind ss s span) (e ∙ written_behind ss (statement_node s span) ks),
+  λ us ks e. by_case us ks (is_void s) (shown_after ss s span) (e ∙ written_after ss (statement_node s span) ks),
 )
   where
     by_case : (us : List Token) (ks : List Kind) (b : Bool) → shown (ss ++ (statement_node s span ∷ []))
@@ -222,7 +222,7 @@ one_more ss s span ys zs before last = (
           value = x.value ++ (y.value ∷ []);
           rest = y.rest;
           kinds = y.kinds;
-          like = bare_behind x.value y.value ∙ ap₂ followed x.like y.like ∙ sym seen;
+          like = bare_after x.value y.value ∙ ap₂ followed x.like y.like ∙ sym seen;
           derived = more x.value y.value x.rest y.rest x.derived y.derived;
         }
 

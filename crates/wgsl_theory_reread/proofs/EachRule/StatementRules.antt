@@ -23,7 +23,7 @@ use Rattle.wgsl_theory_reread.specs.CanonicalAttributes.{attributes_tokens}
 use Rattle.wgsl_theory_reread.specs.CanonicalStatements.{kind_tokens, end_token, unended_tokens, unattributed_tokens, compound_tokens, assert_tokens, selector_tokens, break_if_tokens, opened_tokens, continuing_tokens, statement_tokens}
 use Rattle.wgsl_theory_reread.proofs.Words.{AllWords}
 use Rattle.wgsl_theory_reread.proofs.Again.{D, header_tokens, seen_statement, write, Same, Ended, Unended, Finds, Again}
-use Rattle.wgsl_theory_reread.proofs.Ways.{Outcome, Reads, found_in, first_of, class_of, then_reads, or_reads, gives_reads, makes_reads, sign_reads, before_reads, behind_reads, means_reads, no_sign_reads, list_reads}
+use Rattle.wgsl_theory_reread.proofs.Ways.{Outcome, Reads, found_in, first_of, class_of, then_reads, or_reads, gives_reads, makes_reads, sign_reads, before_reads, after_reads, means_reads, no_sign_reads, list_reads}
 use Rattle.wgsl_theory_reread.proofs.Rules.{AttributeReads, attributes_read, without_known, symbol_reads}
 use Rattle.wgsl_theory_reread.proofs.EachRule.ExpressionRules.{open_left_side_reads, parenthesized_left_side_reads}
 
@@ -36,7 +36,7 @@ abbrev pub continuing_part_tokens : Writer ContinuingParts
 continuing_part_tokens p rest = plain KwContinuing
     ∷ opened_tokens p.0 (optional_tokens break_if_tokens p.1 (plain SymBraceRight ∷ rest))
 
--- the same, spans and empty items aside
+-- the same, ignoring spans and empty items
 abbrev pub LikeBody : ContinuingParts → ContinuingParts → Type 0
 LikeBody w v = (bare_compound w.0 ≡ bare_compound (full_compound v.0))
     × (option_map (bare_attributed bare_break_if) w.1 ≡ option_map (bare_attributed bare_break_if) v.1)
@@ -47,17 +47,17 @@ pub continuing_reads : AttributeReads → {g : Rule ContinuingParts} → Reads g
 continuing_reads one G = gives_reads (then_reads (attributes_read one) G) (λ a rest. refl)
     (λ w a h. λ i. tree.continuing (h.0 i) (h.1.0 i) (h.1.1 i))
 
--- ---- statements behind attributes
--- statements that are the same, spans and empty items aside
+-- ---- statements after attributes
+-- statements that are the same, ignoring spans and empty items
 abbrev pub Like : Statement → Statement → Type 0
 Like w v = bare_statement w ≡ bare_statement (full_statement v)
 
--- the same behind attributes
-abbrev pub LikeBehind : UnattributedStatement → UnattributedStatement → Type 0
-LikeBehind w v = bare_unattributed w ≡ bare_unattributed (full_unattributed v)
+-- the same after attributes
+abbrev pub LikeAfter : UnattributedStatement → UnattributedStatement → Type 0
+LikeAfter w v = bare_unattributed w ≡ bare_unattributed (full_unattributed v)
 
 pub attributed_reads : AttributeReads → {g : Rule UnattributedStatement}
-    → Reads g unattributed_tokens LikeBehind → Reads (attributed tree.statement g) unended_tokens Like
+    → Reads g unattributed_tokens LikeAfter → Reads (attributed tree.statement g) unended_tokens Like
 attributed_reads one G = gives_reads (then_reads (attributes_read one) G) (λ a rest. refl)
     (λ w a h. λ i. tree.statement (h.0 i) (h.1 i))
 
@@ -65,7 +65,7 @@ attributed_reads one G = gives_reads (then_reads (attributes_read one) G) (λ a 
 pub value_kind_reads : Reads (KwLet means let_kind or KwConst means const_kind) kind_tokens (λ w v. w ≡ v)
 value_kind_reads = or_reads (means_reads KwLet refl (λ rest. refl) refl) (means_reads KwConst refl (λ rest. refl) refl)
 
--- a left side behind attributes
+-- a left side after attributes
 pub left_side_reads : AttributeReads
     → Reads (left_side parsed) (λ p rest. attributes_tokens p.0 (expression_node_tokens p.1 rest))
     (λ w v. (bare_attributes w.0 ≡ bare_attributes v.0) × (bare_expression_node w.1 ≡ bare_expression_node v.1))
@@ -83,7 +83,7 @@ pub underscore_reads : Reads (one_token SymUnderscore makes underscore_at) expre
 underscore_reads = makes_reads (sign_reads SymUnderscore refl) (λ a span rest. refl) (λ w a s r h. refl)
 
 -- ---- clauses: the optional colon is left out, and `default` alone is written `case default`
--- a block behind the optional colon
+-- a block after the optional colon
 abbrev pub clause_body : Rule (Option Token × CompoundStatement)
 clause_body = optional (one_token SymColon) then symbol compound_statement
 
@@ -182,7 +182,7 @@ header_reads f = record { again = λ v xs ys d words. without_known (f v xs ys d
 pub ended_reads : {g : Rule Statement} → ReadsWith Ended g → Reads (g ◃ SymSemicolon) ended_tokens Like
 ended_reads {g} f = record {
   again = λ v xs ys d words.
-      let found = (behind_reads SymSemicolon refl (header_reads {P = Ended} {g = g} f)).again v xs ys d words in
+      let found = (after_reads SymSemicolon refl (header_reads {P = Ended} {g = g} f)).again v xs ys d words in
       let ended : Ended v = subst Ended d.1 (f d.0.0 xs d.2.0 d.2.1 words).1 in
       (found.0, λ us ks e. found.1 us ks (e ∙ ap (unended_tokens v) (ended.1 ks)));
 }
@@ -211,7 +211,7 @@ block_reads = gives_reads (symbol_reads compound_statement) block_written
     (λ w a h. block_bare w ∙ ap tree.block_statement h ∙ sym (block_bare (full_compound a))
     ∙ sym (ap bare_statement (block_full a)))
 
--- ---- statements and where they stand: in a list, and in the header of a `for`
+-- ---- statements and where they are: in a list, and in the header of a `for`
 pub item_reads : {g : Rule Statement} → Reads g ended_tokens Like
     → Reads (g makes placed_statement) statement_tokens (λ w v. bare_statement_node w ≡ seen_statement v)
 item_reads G = makes_reads {writes = ended_tokens} {like = Like} G (λ a span rest. refl)

@@ -26,7 +26,7 @@ use Rattle.wgsl_theory_reread.specs.CanonicalUnits.{attributed_tokens, parameter
 use Rattle.wgsl_theory_reread.proofs.Words.{NoPeriod}
 use Rattle.wgsl_theory_reread.proofs.Again.{write}
 use Rattle.wgsl_theory_reread.proofs.Names.RuleNames.{word_tokens, pair_tokens}
-use Rattle.wgsl_theory_reread.proofs.Ways.{Reads, then_reads, equal_reads, before_reads, behind_reads, optional_reads, list_reads}
+use Rattle.wgsl_theory_reread.proofs.Ways.{Reads, then_reads, equal_reads, before_reads, after_reads, optional_reads, list_reads}
 use Rattle.wgsl_theory_reread.proofs.Rules.{AttributeReads, attributes_read, symbol_reads}
 
 -- ---- attributes before a name
@@ -35,7 +35,7 @@ pub attributed_ident_reads : AttributeReads
     (λ w v. (bare_attributes w.0 ≡ bare_attributes v.0)
     × ((text_of w.1.0 ≡ text_of v.1.0) × (bare_type w.1.1 ≡ bare_type v.1.1)))
 attributed_ident_reads one = then_reads (attributes_read one)
-    (then_reads (behind_reads SymColon refl (symbol_reads ident)) (symbol_reads type_specifier))
+    (then_reads (after_reads SymColon refl (symbol_reads ident)) (symbol_reads type_specifier))
 
 -- ---- names in a list
 further_written : (names : List Token) (rest : List Kind)
@@ -59,7 +59,7 @@ names_read = equal_reads (list_reads (symbol_reads ident)) names_written
     (λ w v h. texts_mapped w ∙ h ∙ sym (texts_mapped v))
 
 -- ---- functions
--- what a function returns, behind its arrow
+-- what a function returns, after its arrow
 abbrev pub returned_tokens : Writer (Attributes × TypeExpression)
 returned_tokens r rest = plain SymArrow ∷ attributes_tokens r.0 (type_tokens r.1 rest)
 

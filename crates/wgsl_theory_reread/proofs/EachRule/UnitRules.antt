@@ -29,13 +29,13 @@ use Rattle.wgsl_theory_reread.specs.CanonicalExpressions.{Writer, all_tokens, op
 use Rattle.wgsl_theory_reread.specs.CanonicalUnits.{directive_tokens, unattributed_declaration_tokens, global_declaration_tokens, kept_declaration_tokens, unattributed_directive_tokens}
 use Rattle.wgsl_theory_reread.proofs.Words.{NoPeriod, AllWords}
 use Rattle.wgsl_theory_reread.proofs.Again.{D, Again, write, Same, Known, Found, Finds}
-use Rattle.wgsl_theory_reread.proofs.Ways.{Outcome, Reads, found_in, known_reads, words_behind, then_reads, gives_reads, makes_reads, before_reads, behind_reads, none_reads, optional_reads, no_sign_reads, all_behind, map_behind, many_reads, list_or_none_reads}
+use Rattle.wgsl_theory_reread.proofs.Ways.{Outcome, Reads, found_in, known_reads, words_after, then_reads, gives_reads, makes_reads, before_reads, after_reads, none_reads, optional_reads, no_sign_reads, all_after, map_after, many_reads, list_or_none_reads}
 use Rattle.wgsl_theory_reread.proofs.Rules.{AttributeReads, attributes_read, symbol_reads}
 use Rattle.wgsl_theory_reread.proofs.Names.NamedWords.{severity_word}
 use Rattle.wgsl_theory_reread.proofs.EachRule.UnitParts.{returned_reads, function_written, same_function, period_tokens, rule_written, same_rule}
 
--- ---- declarations behind attributes
--- declarations that are the same, spans and empty items aside
+-- ---- declarations after attributes
+-- declarations that are the same, ignoring spans and empty items
 abbrev pub SameDeclaration : GlobalDeclaration → GlobalDeclaration → Type 0
 SameDeclaration w v = bare_global_declaration w ≡ bare_global_declaration (full_declaration v)
 
@@ -56,13 +56,13 @@ pub function_declaration_reads : AttributeReads
     → Reads (written function_declaration) (write function_declaration) (Same function_declaration)
 function_declaration_reads one = declaration_reads one (gives_reads
     (before_reads KwFn refl (then_reads (symbol_reads ident) (before_reads SymParenLeft refl
-    (then_reads (behind_reads SymParenRight refl (list_or_none_reads {bare = bare_parameter} {kept = bare_parameter}
+    (then_reads (after_reads SymParenRight refl (list_or_none_reads {bare = bare_parameter} {kept = bare_parameter}
     (symbol_reads formal_parameter))) (then_reads (returned_reads one) (symbol_reads compound_statement))))))
     (λ a rest. function_written a.0 a.1.0 a.1.1.0 a.1.1.1 rest)
     (λ w a h. ap tree.function (same_function w a h.0 h.1.0 h.1.1.0 h.1.1.1)))
 
 -- ---- directives
--- a directive behind its attributes
+-- a directive after its attributes
 pub directive_reads : AttributeReads → {g : Rule UnattributedDirective}
     → Reads g unattributed_directive_tokens (λ w v. w ≡ v)
     → Reads (attributed with_attributes g) directive_tokens (λ w v. bare_directive w ≡ bare_directive v)
@@ -70,7 +70,7 @@ directive_reads one G = gives_reads (then_reads (attributes_read one) G) (λ a r
     (λ w a h. λ i. with_attributes (h.0 i) (h.1 i))
 
 -- ---- `diagnostic`
--- a severity and the names of a rule, with a comma behind them or none
+-- a severity and the names of a rule, with a comma after them or none
 abbrev pub DiagnosticParts : Type 0
 DiagnosticParts = Token × (Token × (Option Token × Option Token))
 
@@ -88,9 +88,9 @@ diagnostic_parts_tokens p rest =
 diagnostic_parts_read : Reads diagnostic_parts diagnostic_parts_tokens
     (λ w v. (text_of w.0 ≡ text_of v.0) × ((text_of w.1.0 ≡ text_of v.1.0)
     × ((option_map text_of w.1.1.0 ≡ option_map text_of v.1.1.0) × Unit {0})))
-diagnostic_parts_read = then_reads (behind_reads SymComma refl (symbol_reads diagnostic_severity))
+diagnostic_parts_read = then_reads (after_reads SymComma refl (symbol_reads diagnostic_severity))
     (then_reads (symbol_reads ident) (then_reads (optional_reads (before_reads SymPeriod refl (symbol_reads ident)))
-    (behind_reads SymSemicolon refl (behind_reads SymParenRight refl no_sign_reads))))
+    (after_reads SymSemicolon refl (after_reads SymParenRight refl no_sign_reads))))
 
 -- the word of the severity names it, and the first name of the rule has no `.`
 abbrev KnownParts : DiagnosticParts → Type 0
@@ -100,7 +100,7 @@ known_parts : (p : DiagnosticParts) (xs ys : List Token)
     → Means checking Again diagnostic_parts p xs ys → AllWords xs → KnownParts p
 known_parts p xs ys d words =
     let severity = d.1.2.1 words in
-    let name = d.2.1 (words_behind d.1.0.1 d.1.2.0 d.0 d.1.2.2.1 severity.0) in
+    let name = d.2.1 (words_after d.1.0.1 d.1.2.0 d.0 d.1.2.2.1 severity.0) in
     (subst (λ (z : Token). Known diagnostic_severity z) d.1.1 severity.1, name.1)
 
 pub severity_written : (t : Token) → Known diagnostic_severity t → severity_text (severity_of t) ≡ text_of t
@@ -127,11 +127,11 @@ diagnostic_directive_reads one = directive_reads one
 abbrev bare_item : Spanned GlobalDeclaration → Spanned GlobalDeclaration
 bare_item = bare_spanned bare_global_declaration
 
--- a declaration behind others, if it is not empty
-full_behind : (ds : List (Spanned GlobalDeclaration)) (d : Spanned GlobalDeclaration)
+-- a declaration after others, if it is not empty
+full_after : (ds : List (Spanned GlobalDeclaration)) (d : Spanned GlobalDeclaration)
     → full_declarations (ds ++ (d ∷ [])) ≡ full_declarations ds ++ full_declarations (d ∷ [])
-full_behind [] d = refl
-full_behind (e ∷ ds) d = at (full_behind ds d) (is_void e.node) where
+full_after [] d = refl
+full_after (e ∷ ds) d = at (full_after ds d) (is_void e.node) where
   item : Spanned GlobalDeclaration
   item = record e { node = full_declaration e.node }
 
@@ -160,7 +160,7 @@ one_more a b last us ks x = at (is_void b.node) refl x where
     value = x.value;
     rest = x.rest;
     kinds = x.kinds;
-    like = x.like ∙ ap (map bare_item) (sym (full_behind a b ∙ rw q (append-nil (full_declarations a))));
+    like = x.like ∙ ap (map bare_item) (sym (full_after a b ∙ rw q (append-nil (full_declarations a))));
     derived = x.derived;
   }
   at false q x =
@@ -169,10 +169,10 @@ one_more a b last us ks x = at (is_void b.node) refl x where
         value = x.value ++ (y.value ∷ []);
         rest = y.rest;
         kinds = y.kinds;
-        like = map_behind bare_item x.value y.value
+        like = map_after bare_item x.value y.value
             ∙ ap₂ (λ (z : List (Spanned GlobalDeclaration)) (u : GlobalDeclaration). z
             ++ (record { node = u; span = no_span } ∷ [])) x.like y.like
-            ∙ sym (ap (map bare_item) (full_behind a b) ∙ rw q (map_behind bare_item
+            ∙ sym (ap (map bare_item) (full_after a b) ∙ rw q (map_after bare_item
             (full_declarations a) (record b { node = full_declaration b.node })));
         derived = more x.value y.value x.rest y.rest x.derived y.derived;
       }
@@ -203,7 +203,7 @@ declarations_read = record { again = λ v xs ys d words. go xs v ys d words } wh
       let last = (symbol_reads global_declaration).again b ys zs d before.0 in (
         last.0,
         λ us ks e. one_more a b last.1 us ks (before.1 us (kept_declaration_tokens b ks)
-            (e ∙ all_behind kept_declaration_tokens a b ks)),
+            (e ∙ all_after kept_declaration_tokens a b ks)),
       )
 
 directives_read : Reads (many (symbol global_directive)) (all_tokens directive_tokens)

@@ -10,7 +10,7 @@ use Rattle.wgsl_model.specs.Trees.Expressions.{ExpressionNode, expression_node, 
 use Rattle.wgsl_model.specs.Grammar.Checks.{untemplated_name, untemplated_name_in, untemplated_word}
 use Rattle.wgsl_theory_reread.specs.CanonicalExpressions.{expression_tokens, expression_node_tokens}
 
--- each value of a table has the word that stands with it
+-- each value of a table has the word that is with it
 abbrev pub HasWords : {A : Type 0} → (A → List ℕ) → WordTable A → Type 0
 HasWords {A} text table = map (λ (entry : List ℕ × A). text entry.1) table ≡ map (λ (entry : List ℕ × A). entry.0) table
 

@@ -14,7 +14,7 @@ use Rattle.wgsl_model.specs.Grammar.Symbols.{Dialect.parsed, Symbol, ident, type
 use Rattle.wgsl_model.specs.Grammar.Written.{written, keyword_classes}
 use Rattle.wgsl_theory_reread.proofs.Words.{NoPeriod, IsWord}
 use Rattle.wgsl_theory_reread.proofs.Again.{D}
-use Rattle.wgsl_theory_reread.proofs.Gives.{Given, GivesBy, token_sound, symbol_sound, none_sound, then_sound, or_sound, gives_sound, makes_sound, check_sound, chain_sound, anything, sign_before, sign_behind}
+use Rattle.wgsl_theory_reread.proofs.Gives.{Given, GivesBy, token_sound, symbol_sound, none_sound, then_sound, or_sound, gives_sound, makes_sound, check_sound, chain_sound, anything, sign_before, sign_after}
 use Rattle.wgsl_theory_reread.proofs.Names.RuleNames.{IsPlainType, IsPlainName, IsPlainRule, PlainNode, PlainNodes, PlainArguments}
 
 -- what has no `.` in the value of a symbol
@@ -42,19 +42,19 @@ abbrev Keeps : {A : Type 0} → Rule A → (A → Type 0) → Type 0
 Keeps g P = GivesBy IsWord IsPlain g P
 
 -- ---- lists
-nodes_behind : (es : List ExpressionNode) (e : ExpressionNode) → PlainNodes es → PlainNode e
+nodes_after : (es : List ExpressionNode) (e : ExpressionNode) → PlainNodes es → PlainNode e
     → PlainNodes (es ++ (e ∷ []))
-nodes_behind [] e h k = (k, tt)
-nodes_behind (x ∷ es) e h k = (h.0, nodes_behind es e h.1 k)
+nodes_after [] e h k = (k, tt)
+nodes_after (x ∷ es) e h k = (h.0, nodes_after es e h.1 k)
 
 separated_keeps : Keeps (separated SymComma (symbol expression)) PlainNodes
 separated_keeps = chain_sound (gives_sound (symbol_sound expression) (λ (e : ExpressionNode). e ∷ [])
     PlainNodes (λ e h. (h, tt))) (sign_before SymComma (symbol_sound expression))
     (λ (es : List ExpressionNode) (e : ExpressionNode) s. es ++ (e ∷ []))
-    (λ es e span h k. nodes_behind es e h k)
+    (λ es e span h k. nodes_after es e h k)
 
 nodes_keep : Keeps (list_or_none SymComma (symbol expression)) PlainNodes
-nodes_keep = or_sound (or_sound separated_keeps (sign_behind SymComma separated_keeps)) (none_sound [] PlainNodes tt)
+nodes_keep = or_sound (or_sound separated_keeps (sign_after SymComma separated_keeps)) (none_sound [] PlainNodes tt)
 
 -- ---- the rules
 names_among : (c : ℕ) → is_among c (Ident ∷ ReservedWord ∷ []) ≡ true
@@ -79,7 +79,7 @@ type_keeps = gives_sound (then_sound (symbol_sound ident) (anything (optional (s
     type_of IsPlainType (λ p h. plain_type p.0 p.1 h.0)
 
 arguments_keep : Keeps (written arguments) (IsPlain arguments)
-arguments_keep = sign_before SymParenLeft (sign_behind SymParenRight nodes_keep)
+arguments_keep = sign_before SymParenLeft (sign_after SymParenRight nodes_keep)
 
 primary_keeps : Keeps (written primary_expression) (IsPlain primary_expression)
 primary_keeps = makes_sound

@@ -1,4 +1,5 @@
--- Written by tools/tables/changed_trees.py from wgsl_model: a statement after a change. Its printed text
+-- Written by tools/tables/changed_trees.py from wgsl_model: a statement after a change. Its printed
+-- text
 -- is the same, and changed twice it is changed once, if that is so of the parts.
 use Rattle.std.proofs.Common.{refl, ◌++◌, ◌∷◌, ◌≡◌}
 use Rattle.std.specs.Prelude.{codes}

@@ -18,11 +18,11 @@ use Rattle.wgsl_theory_reread.specs.CanonicalExpressions.{binary_operator_class,
 use Rattle.wgsl_theory_reread.specs.CanonicalUnits.{without_place}
 use Rattle.wgsl_theory_reread.proofs.Words.{AllWords}
 use Rattle.wgsl_theory_reread.proofs.Again.{write}
-use Rattle.wgsl_theory_reread.proofs.Ways.{words_behind}
+use Rattle.wgsl_theory_reread.proofs.Ways.{words_after}
 use Rattle.wgsl_theory_templates.proofs.Reaching.Moves.{kinds}
 use Rattle.wgsl_theory_reread.proofs.EachRule.ExpressionRules.{expressions_written, template_written, Operand, one_of_more, literal_classes, unary_operator_tokens, operator_tokens, operand_tokens}
 use Rattle.wgsl_theory_templates.proofs.Changes.Edits.{is_stop, Edits, kept, two_minuses, widen}
-use Rattle.wgsl_theory_templates.proofs.Changes.EditWays.{edit_write, Edited, TurnsComponent, Changed, Changes, then_edits, or_edits, makes_edits, before_edits, behind_edits, means_edits, optional_edits, chain_edits, equal_edits}
+use Rattle.wgsl_theory_templates.proofs.Changes.EditWays.{edit_write, Edited, TurnsComponent, Changed, Changes, then_edits, or_edits, makes_edits, before_edits, after_edits, means_edits, optional_edits, chain_edits, equal_edits}
 use Rattle.wgsl_theory_templates.proofs.Changes.EditSymbols.{symbol_edits}
 
 -- ---- names
@@ -93,7 +93,7 @@ pub literal_right : {b : Bool} → Changes false b (written literal) (write lite
 literal_right {b} = record {
   edit = λ v xs ys d words.
       subst (λ (z : LiteralExpression). Changed false b (write literal) z xs ys) d.1 (
-        words_behind d.0 xs ys d.2.1 words,
+        words_after d.0 xs ys d.2.1 words,
         λ ks r. token_kept d.0 (literal_token (literal_of d.0)) xs ys ks (literal_class d.0 d.2.0) d.2.1 r,
       );
 }
@@ -105,7 +105,7 @@ node_edits G = makes_edits G (λ a span rest. refl)
 
 index_edits : {b : Bool} → Changes false b (SymBracketLeft ▹ symbol expression ◃ SymBracketRight)
     (λ e rest. plain SymBracketLeft ∷ expression_node_tokens e (plain SymBracketRight ∷ rest))
-index_edits = before_edits SymBracketLeft (behind_edits {m = false} SymBracketRight (symbol_edits expression tt))
+index_edits = before_edits SymBracketLeft (after_edits {m = false} SymBracketRight (symbol_edits expression tt))
 
 name_edits : {b : Bool} → Changes false b (SymPeriod ▹ symbol ident)
     (λ t rest. plain SymPeriod ∷ (kind_of_word (text_of t) ∷ rest))
@@ -125,7 +125,7 @@ component_right v xs ys (inr d) words =
     subst (λ (z : Value component). AllWords ys × TurnsComponent z xs ys) d.1
     (found.0, λ ks r. (plain SymPeriod ∷ (kind_of_word (text_of d.0) ∷ ks), λ base. refl, found.1 ks r))
 
--- components behind an expression
+-- components after an expression
 pub components_edits : {b : Bool} {g : Rule ExpressionNode} → Changes false b g expression_node_tokens
     → Changes false b (left_chain with_component g (symbol component)) expression_node_tokens
 components_edits {b} {g} G = record { edit = λ v xs ys d words. go xs v ys d words } where
@@ -138,8 +138,8 @@ components_edits {b} {g} G = record { edit = λ v xs ys d words. go xs v ys d wo
       let last = d before.0 in (
         last.0,
         λ ks r.
-            let behind = last.3 ks r in
-            subst (λ (z : List Kind). Edits b (kinds xs) z) (sym (behind.1 a)) (before.1 behind.0 behind.2),
+            let following = last.3 ks r in
+            subst (λ (z : List Kind). Edits b (kinds xs) z) (sym (following.1 a)) (before.1 following.0 following.2),
       )
 
 -- ---- an operator before an operand
@@ -181,7 +181,7 @@ negation_edits {b} = makes_edits
           (λ e rest. plain SymMinus ∷ (plain SymMinus ∷ expression_node_tokens e rest)) z xs ys) d.1 (
           let t = d.0.0 in
           let found = (symbol_edits unary_expression tt {b = false}).edit d.0.1 d.2.0 ys d.2.2
-          (words_behind t xs d.2.0 d.2.1.1 words) in (
+          (words_after t xs d.2.0 d.2.1.1 words) in (
             found.0,
             λ ks r. subst (λ (z : List Token). Edits b (kinds z)
                 (plain SymMinus ∷ (plain SymMinus ∷ expression_node_tokens d.0.1 ks))) (sym d.2.1.1)
@@ -214,4 +214,4 @@ open_left_side_edits =
 
 pub parenthesized_left_side_edits : {b : Bool} → Changes false b parenthesized_left_side expression_node_tokens
 parenthesized_left_side_edits = components_edits (makes_edits (before_edits SymParenLeft
-    (behind_edits {m = false} SymParenRight (symbol_edits lhs_expression tt))) (λ a span rest. refl))
+    (after_edits {m = false} SymParenRight (symbol_edits lhs_expression tt))) (λ a span rest. refl))

@@ -17,17 +17,17 @@ use Rattle.wgsl_theory_reread.specs.CanonicalStatements.{kind_tokens, initialize
 use Rattle.wgsl_theory_reread.specs.CanonicalUnits.{without_place}
 use Rattle.wgsl_theory_reread.proofs.Words.{AllWords}
 use Rattle.wgsl_theory_reread.proofs.Again.{header_tokens}
-use Rattle.wgsl_theory_reread.proofs.Ways.{words_behind}
-use Rattle.wgsl_theory_reread.proofs.EachRule.StatementParts.{part_written, else_ifs_written, clauses_written, bare_break_if_tokens, written_behind}
+use Rattle.wgsl_theory_reread.proofs.Ways.{words_after}
+use Rattle.wgsl_theory_reread.proofs.EachRule.StatementParts.{part_written, else_ifs_written, clauses_written, bare_break_if_tokens, written_after}
 use Rattle.wgsl_theory_reread.proofs.EachRule.StatementRules.{clause_body}
 use Rattle.wgsl_theory_templates.proofs.Reaching.Moves.{kinds}
 use Rattle.wgsl_theory_templates.proofs.Changes.Edits.{ends_list, first_among, block_begins, Edits, no_colon, no_semicolon, widen}
-use Rattle.wgsl_theory_templates.proofs.Changes.EditWays.{Edited, Changed, Changes, ListChanges, then_edits, or_edits, gives_edits, equal_edits, before_edits, behind_edits, means_edits, none_edits, chain_edits, many_edits, several_edits}
+use Rattle.wgsl_theory_templates.proofs.Changes.EditWays.{Edited, Changed, Changes, ListChanges, then_edits, or_edits, gives_edits, equal_edits, before_edits, after_edits, means_edits, none_edits, chain_edits, many_edits, several_edits}
 use Rattle.wgsl_theory_templates.proofs.Changes.EditSymbols.{symbol_edits, statement_edits}
 use Rattle.wgsl_theory_templates.proofs.Changes.EditAttributeRules.{attributes_edits}
 
 -- ---- more ways to write a right side
--- before what no stop may stand in front of
+-- before what no stop may be in front of
 pub narrow_edits : {e b : Bool} {A : Type 0} {g : Rule A} {writes : Writer A} → Changes e b g writes
     → Changes false b g writes
 narrow_edits {e} G = record {
@@ -41,7 +41,7 @@ pub empty_edits : {A : Type 0} {a : A} {writes : Writer A}
 empty_edits {A} {a} {writes} s = record {
   edit = λ v xs ys d words.
       subst (λ (z : A). Changed true true writes z xs ys) d.1 (
-        words_behind d.0 xs ys d.2.1 words,
+        words_after d.0 xs ys d.2.1 words,
         λ ks r. subst (λ (z : List Kind). Edits true (kinds xs) z) (sym (s ks))
             (subst (λ (z : List Token). Edits true (kinds z) ks) (sym d.2.1)
             (no_semicolon (without_place d.0) (kinds ys) ks (one_class d.0.class SymSemicolon d.2.0) r)),
@@ -69,7 +69,7 @@ initializer_edits = before_edits SymEqual (symbol_edits expression tt)
 condition_edits : {b : Bool}
     → Changes true b (KwBreak ▹ KwIf ▹ symbol expression ◃ SymSemicolon gives break_if_of) bare_break_if_tokens
 condition_edits = gives_edits (before_edits KwBreak (before_edits KwIf
-    (behind_edits {m = false} SymSemicolon (symbol_edits expression tt)))) (λ a rest. refl)
+    (after_edits {m = false} SymSemicolon (symbol_edits expression tt)))) (λ a rest. refl)
 
 pub break_if_edits : {b : Bool} → Changes true b (break_if parsed) break_if_tokens
 break_if_edits = gives_edits (then_edits attributes_edits condition_edits) (λ a rest. refl)
@@ -96,7 +96,7 @@ assignment_operator_edits = or_edits (operator_edits SymEqual refl)
     (or_edits (operator_edits SymXorEqual refl) (or_edits (operator_edits SymShiftRightAssign refl)
     (operator_edits SymShiftLeftAssign refl))))))))))
 
--- ---- parts that may be left out, as they stand in a tree
+-- ---- parts that may be left out, as they are in a tree
 pub else_edits : Changes true true (optional else_block) (λ v rest. else_tokens (else_of v) rest)
 else_edits = or_edits (gives_edits else_block_edits (λ a rest. refl)) (none_edits {e = true} tt (λ rest. refl))
 
@@ -109,7 +109,7 @@ pub part_edits : {b : Bool} {g : Rule StatementNode} → Changes false b g heade
     → Changes false b (optional g) (λ v rest. part_tokens (maybe_statement v) rest)
 part_edits G = or_edits (gives_edits G part_written) (none_edits {e = false} tt (λ rest. refl))
 
--- ---- lists, as they stand in a tree
+-- ---- lists, as they are in a tree
 
 pub else_ifs_edits : Changes true true (many else_if) (λ v rest. else_ifs_tokens (else_ifs_of v) rest)
 else_ifs_edits = equal_edits (many_edits {e = true} {b = true} tt else_if_edits) else_ifs_written
@@ -123,9 +123,9 @@ clauses_edits = equal_edits
 
 pub statements_edits : Changes true true statements (λ ss rest. statements_tokens (statements_of ss) rest)
 statements_edits = chain_edits (none_edits {e = true} tt (λ rest. refl)) statement_edits
-    (λ a x span rest. written_behind a x rest)
+    (λ a x span rest. written_after a x rest)
 
--- ---- a block behind a colon that may stand there
+-- ---- a block after a colon that may be there
 block_first : (v : CompoundStatement) (rest : List Kind) → first_among block_begins (compound_tokens v rest) ≡ true
 block_first (tree.compound_statement [] ss) rest = refl
 block_first (tree.compound_statement (a ∷ more) ss) rest = refl
@@ -142,7 +142,7 @@ clause_body_edits {b} = record { edit = λ v xs ys d words. go v xs ys d.0 d.1 d
       → Changed true b (λ p rest. compound_tokens p.1 rest) v xs ys
   go v xs ys ms (inl d) body words =
       let found = (symbol_edits compound_statement tt {b = false}).edit v.1 ms ys body
-      (words_behind d.0 xs ms d.2.1 words) in (
+      (words_after d.0 xs ms d.2.1 words) in (
         found.0,
         λ ks r. subst (λ (z : List Token). Edits b (kinds z) (compound_tokens v.1 ks)) (sym d.2.1)
             (no_colon b (without_place d.0) (kinds ms) (compound_tokens v.1 ks)

@@ -19,18 +19,18 @@ use Rattle.wgsl_theory_reread.specs.CanonicalStatements.{kind_tokens, end_token,
 use Rattle.wgsl_theory_reread.specs.CanonicalUnits.{without_place}
 use Rattle.wgsl_theory_reread.proofs.Words.{AllWords}
 use Rattle.wgsl_theory_reread.proofs.Again.{write, Ended, Unended}
-use Rattle.wgsl_theory_reread.proofs.Ways.{words_behind}
+use Rattle.wgsl_theory_reread.proofs.Ways.{words_after}
 use Rattle.wgsl_theory_reread.proofs.EachRule.StatementRules.{clause_body, case_clause, default_clause, clause_tokens, ContinuingParts, continuing_part_tokens}
 use Rattle.wgsl_theory_reread.proofs.EachRule.StatementParts.{kept_tokens}
 use Rattle.wgsl_theory_templates.proofs.Reaching.Moves.{kinds}
 use Rattle.wgsl_theory_templates.proofs.Changes.Edits.{Edits, with_case}
-use Rattle.wgsl_theory_templates.proofs.Changes.EditWays.{sign_edits, Edited, Turns, Changed, Changes, token_turns, then_edits, or_edits, gives_edits, makes_edits, before_edits, behind_edits, means_edits, list_edits, wider_edits}
+use Rattle.wgsl_theory_templates.proofs.Changes.EditWays.{sign_edits, Edited, Turns, Changed, Changes, token_turns, then_edits, or_edits, gives_edits, makes_edits, before_edits, after_edits, means_edits, list_edits, wider_edits}
 use Rattle.wgsl_theory_templates.proofs.Changes.EditSymbols.{symbol_edits}
 use Rattle.wgsl_theory_templates.proofs.Changes.EditRules.{open_left_side_edits, parenthesized_left_side_edits}
 use Rattle.wgsl_theory_templates.proofs.Changes.EditAttributeRules.{attributes_edits}
 use Rattle.wgsl_theory_templates.proofs.Changes.EditStatementParts.{narrow_edits, empty_edits, list_then_edits, block_ends_list, clause_body_edits}
 
--- ---- statements behind attributes
+-- ---- statements after attributes
 pub attributed_edits : {e b : Bool} {g : Rule UnattributedStatement}
     → Changes e false g unattributed_tokens → Changes e b (attributed tree.statement g) unended_tokens
 attributed_edits G = gives_edits (then_edits attributes_edits G) (λ a rest. refl)
@@ -39,21 +39,21 @@ attributed_edits G = gives_edits (then_edits attributes_edits G) (λ a rest. ref
 pub value_kind_edits : {b : Bool} → Changes false b (KwLet means let_kind or KwConst means const_kind) kind_tokens
 value_kind_edits = or_edits (means_edits KwLet (λ rest. refl)) (means_edits KwConst (λ rest. refl))
 
--- `continuing` from its word on, behind attributes
+-- `continuing` from its word on, after attributes
 pub continuing_edits : {e b : Bool} {g : Rule ContinuingParts} → Changes e false g continuing_part_tokens
     → Changes e b (attributed continuing_statement_of g) continuing_tokens
 continuing_edits G = gives_edits (then_edits attributes_edits G) (λ a rest. refl)
 
--- a left side behind attributes
+-- a left side after attributes
 pub left_side_edits : {b : Bool}
     → Changes false b (left_side parsed) (λ p rest. attributes_tokens p.0 (expression_node_tokens p.1 rest))
 left_side_edits = or_edits (then_edits attributes_edits open_left_side_edits)
     (gives_edits parenthesized_left_side_edits (λ a rest. refl))
 
--- `++`, before which no stop may stand
+-- `++`, before which no stop may be
 pub increased_edits : {b : Bool} → Changes false b (left_side parsed ◃ SymPlusPlus)
     (λ p rest. attributes_tokens p.0 (expression_node_tokens p.1 (plain SymPlusPlus ∷ rest)))
-increased_edits = narrow_edits {e = true} (behind_edits {m = false} SymPlusPlus left_side_edits)
+increased_edits = narrow_edits {e = true} (after_edits {m = false} SymPlusPlus left_side_edits)
 
 pub assert_edits : {b : Bool} → Changes false b (KwConstAssert ▹ symbol expression gives assert_of) assert_tokens
 assert_edits = gives_edits (before_edits KwConstAssert (symbol_edits expression tt)) (λ a rest. refl)
@@ -70,7 +70,7 @@ default_edits {b} = record {
       subst (λ (z : Option Token × CompoundStatement). Changed true b
       (λ p rest. plain KwCase ∷ (plain KwDefault ∷ compound_tokens p.1 rest)) z xs ys) d.1 (
       let t = d.0.0 in
-      let found = (clause_body_edits {b = false}).edit d.0.1 d.2.0 ys d.2.2 (words_behind t xs d.2.0 d.2.1.1 words) in (
+      let found = (clause_body_edits {b = false}).edit d.0.1 d.2.0 ys d.2.2 (words_after t xs d.2.0 d.2.1.1 words) in (
         found.0,
         λ ks r. subst (λ (z : List Token). Edits b (kinds z)
             (plain KwCase ∷ (plain KwDefault ∷ compound_tokens d.0.1.1 ks))) (sym d.2.1.1)
@@ -111,7 +111,7 @@ ended_edits {g} f = record {
   edit = λ v xs ys d words.
       subst (λ (z : Statement). Changed true false kept_plain z xs ys) d.1 (
       let found = f d.0.0 xs d.2.0 d.2.1 words in (
-        words_behind d.0.1 d.2.0 ys d.2.2.1 found.0,
+        words_after d.0.1 d.2.0 ys d.2.2.1 found.0,
         λ ks r. subst (λ (z : List Kind). Edits false (kinds xs) z)
             (sym (kept_is d.0.0 ks found.1.0 ∙ ap (unended_tokens d.0.0) (found.1.1 ks)))
             (found.3 (plain SymSemicolon ∷ ks)

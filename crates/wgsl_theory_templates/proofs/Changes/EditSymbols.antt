@@ -12,7 +12,7 @@ use Rattle.wgsl_theory_templates.proofs.Changes.EditWays.{Changes, edit_write}
 pub finished : {A B C E F : Type 0} → A × B × C → F → A × E → A × B × F × E
 finished known filled found = (found.0, known.1, filled, found.1)
 
--- all symbols but components, lists of expressions and what stands behind a stop alone
+-- all symbols but components, lists of expressions and what is after a stop alone
 abbrev pub IsTurned : Symbol → Type 0
 IsTurned component = ⊥
 IsTurned expressions = ⊥

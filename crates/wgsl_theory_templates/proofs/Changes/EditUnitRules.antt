@@ -21,17 +21,17 @@ use Rattle.wgsl_theory_reread.specs.CanonicalExpressions.{Writer, optional_token
 use Rattle.wgsl_theory_reread.specs.CanonicalUnits.{directive_tokens, unattributed_declaration_tokens, global_declaration_tokens, kept_declaration_tokens, without_place, unattributed_directive_tokens}
 use Rattle.wgsl_theory_reread.proofs.Words.{NoPeriod, AllWords}
 use Rattle.wgsl_theory_reread.proofs.Again.{write, Known}
-use Rattle.wgsl_theory_reread.proofs.Ways.{words_behind}
+use Rattle.wgsl_theory_reread.proofs.Ways.{words_after}
 use Rattle.wgsl_theory_reread.proofs.EachRule.UnitParts.{names_written, function_written, rule_written, returned_tokens}
 use Rattle.wgsl_theory_reread.proofs.EachRule.UnitRules.{DiagnosticParts, diagnostic_parts, diagnostic_parts_tokens, severity_written}
 use Rattle.wgsl_theory_templates.proofs.Reaching.Moves.{kinds}
 use Rattle.wgsl_theory_templates.proofs.Changes.Edits.{ends_list, Edits, no_comma, widen}
-use Rattle.wgsl_theory_templates.proofs.Changes.EditWays.{Edited, Turns, Changes, ListChanges, then_edits, or_edits, gives_edits, makes_edits, wider_edits, before_edits, behind_edits, optional_edits, many_edits, list_edits, list_or_none_edits, ended_list_edits}
+use Rattle.wgsl_theory_templates.proofs.Changes.EditWays.{Edited, Turns, Changes, ListChanges, then_edits, or_edits, gives_edits, makes_edits, wider_edits, before_edits, after_edits, optional_edits, many_edits, list_edits, list_or_none_edits, ended_list_edits}
 use Rattle.wgsl_theory_templates.proofs.Changes.EditSymbols.{symbol_edits, global_declaration_edits}
 use Rattle.wgsl_theory_templates.proofs.Changes.EditAttributeRules.{attributes_edits}
 use Rattle.wgsl_theory_templates.proofs.Changes.EditStatementParts.{empty_edits}
 
--- ---- declarations behind attributes
+-- ---- declarations after attributes
 pub declaration_edits : {e b : Bool} {g : Rule UnattributedDeclaration}
     → Changes e false g unattributed_declaration_tokens
     → Changes e b (attributed with_attributes g) global_declaration_tokens
@@ -86,21 +86,21 @@ names_edits {b} = record {
       (found.0, λ ks f r. subst (λ (z : List Kind). Edits b (kinds xs) z) (sym (names_written v ks)) (found.1 ks f r));
 }
 
--- a directive behind its attributes
+-- a directive after its attributes
 pub directive_edits : {b : Bool} {g : Rule UnattributedDirective}
     → Changes true false g unattributed_directive_tokens
     → Changes true b (attributed with_attributes g) directive_tokens
 directive_edits G = gives_edits (then_edits attributes_edits G) (λ a rest. refl)
 
 -- ---- `diagnostic`
--- a comma that may stand before what ends a list is left out
+-- a comma that may be before what ends a list is left out
 comma_edits : {b : Bool} → ListChanges b (optional (one_token SymComma)) (λ v rest. rest)
 comma_edits {b} = record { edit = go } where
   go : (v : Option Token) (xs ys : List Token)
       → Means checking Edited (optional (one_token SymComma)) v xs ys → AllWords xs → AllWords ys
       × ((ks : List Kind) → ends_list ks ≡ true → Edits false (kinds ys) ks → Edits b (kinds xs) ks)
   go v xs ys (inl d) words = (
-    words_behind d.0 xs ys d.2.1 words,
+    words_after d.0 xs ys d.2.1 words,
     λ ks f r. subst (λ (z : List Token). Edits b (kinds z) ks) (sym d.2.1)
         (no_comma b (without_place d.0) (kinds ys) ks (one_class d.0.class SymComma d.2.0) f r),
   )
@@ -111,10 +111,10 @@ comma_edits {b} = record { edit = go } where
 
 diagnostic_parts_edits : {b : Bool} → Changes true b diagnostic_parts diagnostic_parts_tokens
 diagnostic_parts_edits =
-    then_edits (behind_edits {m = false} SymComma (symbol_edits diagnostic_severity tt))
+    then_edits (after_edits {m = false} SymComma (symbol_edits diagnostic_severity tt))
     (then_edits (symbol_edits ident tt)
     (then_edits (optional_edits {e = false} tt (before_edits SymPeriod (symbol_edits ident tt)))
-    (behind_edits {m = false} SymSemicolon (ended_list_edits SymParenRight refl comma_edits))))
+    (after_edits {m = false} SymSemicolon (ended_list_edits SymParenRight refl comma_edits))))
 
 diagnostic_tokens : (p : DiagnosticParts) → Known diagnostic_severity p.0 → NoPeriod (text_of p.1.0)
     → (rest : List Kind)
@@ -132,7 +132,7 @@ named_diagnostic_edits {b} = record {
       let severity = parts.1.2.1 words in
       let severity_known : Known diagnostic_severity d.0.0 =
       subst (λ (z : Token). Known diagnostic_severity z) parts.1.1 severity.1 in
-      let name = parts.2.1 (words_behind parts.1.0.1 parts.1.2.0 parts.0 parts.1.2.2.1 severity.0) in
+      let name = parts.2.1 (words_after parts.1.0.1 parts.1.2.0 parts.0 parts.1.2.2.1 severity.0) in
       let found = (diagnostic_parts_edits {b = b}).edit d.0 xs ys d.2 words in (
         found.0,
         λ ks r. subst (λ (z : List Kind). Edits b (kinds xs) z) (sym (ap (λ z. unattributed_directive_tokens z ks)

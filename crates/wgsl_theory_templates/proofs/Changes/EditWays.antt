@@ -15,20 +15,20 @@ use Rattle.wgsl_theory_reread.specs.CanonicalExpressions.{Writer, optional_token
 use Rattle.wgsl_theory_reread.specs.CanonicalUnits.{kept_declaration_tokens, without_place}
 use Rattle.wgsl_theory_reread.proofs.Words.{AllWords}
 use Rattle.wgsl_theory_reread.proofs.Again.{write, Known}
-use Rattle.wgsl_theory_reread.proofs.Ways.{words_behind, all_behind, HasItem, has_item, items_tokens, items_behind, items_written}
+use Rattle.wgsl_theory_reread.proofs.Ways.{words_after, all_after, HasItem, has_item, items_tokens, items_after, items_written}
 use Rattle.wgsl_theory_reread.proofs.EachRule.StatementParts.{kept_tokens}
 use Rattle.wgsl_theory_templates.proofs.Reaching.Moves.{kinds}
 use Rattle.wgsl_theory_templates.proofs.Changes.Edits.{is_stop, ends_list, list_ends, Edits, kept, no_comma, Widens, widen}
 
 -- ---- what is written from what a symbol derives
--- items are written as they stand in their list, and a negated product with the minus before it
+-- items are written as they are in their list, and a negated product with the minus before it
 abbrev pub edit_write : (n : Symbol) → Writer (Value n)
 edit_write statement = kept_tokens
 edit_write global_declaration = kept_declaration_tokens
 edit_write negated_expression = λ v rest. plain SymMinus ∷ expression_node_tokens v rest
 edit_write n = write n
 
--- the symbols whose tokens stand behind a stop or nothing
+-- the symbols whose tokens are after a stop or nothing
 abbrev pub starts : Symbol → Bool
 starts statement = true
 starts global_declaration = true
@@ -40,7 +40,7 @@ starts n = false
 abbrev pub Turns : {A : Type 0} → Bool → Bool → Writer A → A → List Token → List Token → Type 0
 Turns e b writes v xs ys = (ks : List Kind) → Edits e (kinds ys) ks → Edits b (kinds xs) (writes v ks)
 
--- a component is written behind its base, whatever that is
+-- a component is written after its base, whatever that is
 abbrev pub TurnsComponent : (ExpressionNode → Expression) → List Token → List Token → Type 0
 TurnsComponent v xs ys = (ks : List Kind) → Edits false (kinds ys) ks
     → (ms : List Kind) × ((base : ExpressionNode)
@@ -145,19 +145,19 @@ pub wider_edits : {e m b : Bool} {A : Type 0} {g : Rule A} {writes : Writer A} �
 wider_edits w G =
     record { edit = λ v xs ys d words. let found = G.edit v xs ys d words in (found.0, λ ks r. widen w (found.1 ks r)) }
 
--- ---- a sign or a keyword, before a part, behind it, or for a value
+-- ---- a sign or a keyword, before a part, after it, or for a value
 pub sign_edits : {b : Bool} (c : ℕ) → Changes (is_stop c) b (one_token c) (λ v rest. plain c ∷ rest)
 sign_edits {b} c = record {
-  edit = λ v xs ys d words. (words_behind v xs ys d.1 words, λ ks r. token_turns {b = b} {c = c} v xs ys ks d.0 d.1 r);
+  edit = λ v xs ys d words. (words_after v xs ys d.1 words, λ ks r. token_turns {b = b} {c = c} v xs ys ks d.0 d.1 r);
 }
 
 pub before_edits : {e b : Bool} {A : Type 0} (c : ℕ) {g : Rule A} {writes : Writer A}
     → Changes e (is_stop c) g writes → Changes e b (c ▹ g) (λ v rest. plain c ∷ writes v rest)
 before_edits c G = gives_edits (then_edits (sign_edits c) G) (λ a rest. refl)
 
-pub behind_edits : {m b : Bool} {A : Type 0} (c : ℕ) {g : Rule A} {writes : Writer A}
+pub after_edits : {m b : Bool} {A : Type 0} (c : ℕ) {g : Rule A} {writes : Writer A}
     → Changes m b g writes → Changes (is_stop c) b (g ◃ c) (λ v rest. writes v (plain c ∷ rest))
-behind_edits c G = gives_edits (then_edits G (sign_edits c)) (λ a rest. refl)
+after_edits c G = gives_edits (then_edits G (sign_edits c)) (λ a rest. refl)
 
 pub means_edits : {b : Bool} {A : Type 0} (c : ℕ) {a : A} {writes : Writer A}
     → ((rest : List Kind) → writes a rest ≡ plain c ∷ rest) → Changes (is_stop c) b (c means a) writes
@@ -203,19 +203,19 @@ chain_edits {e} {b} {A} {B} {f} {g} {h} {writes} {item} G H s =
 pub many_edits : {e b : Bool} {A : Type 0} {g : Rule A} {writes : Writer A} → Widens e b
     → Changes e e g writes → Changes e b (many g) (all_tokens writes)
 many_edits {writes = writes} w G = chain_edits (none_edits w (λ rest. refl)) G
-    (λ a x span rest. all_behind writes a x rest)
+    (λ a x span rest. all_after writes a x rest)
 
 pub several_edits : {e b : Bool} {A : Type 0} {g : Rule A} {writes : Writer A}
     → Changes e b g writes → Changes e e g writes → Changes e b (several g) (all_tokens writes)
 several_edits {writes = writes} G H = chain_edits (gives_edits G (λ a rest. refl)) H
-    (λ a x span rest. all_behind writes a x rest)
+    (λ a x span rest. all_after writes a x rest)
 
 -- ---- with a comma between each two
 separated_edits : {b : Bool} {A : Type 0} {g : Rule A} {writes : Writer A} → Changes false b g writes
     → Changes false false g writes → Changes false b (separated SymComma g) (list_tokens writes)
 separated_edits {g = g} {writes = writes} G H =
     fact_edits {Fact = HasItem} (chain_edits {writes = items_tokens writes} (gives_edits G
-    (λ a rest. refl)) (before_edits SymComma H) (λ a x span rest. items_behind writes a x rest))
+    (λ a rest. refl)) (before_edits SymComma H) (λ a x span rest. items_after writes a x rest))
     (λ v xs ys d. has_item (Means checking Edited g) (Means checking Edited (SymComma ▹ g)) xs v ys d)
     (items_written writes)
 
@@ -241,7 +241,7 @@ list_edits {b} {A} {g} {writes} G H = record { edit = go } where
       subst (λ (z : List A). Outcome z xs ys) d.1 (
       let found = S.edit d.0.0 xs d.2.0 d.2.1 words in
       let t = d.0.1 in (
-        words_behind t d.2.0 ys d.2.2.1 found.0,
+        words_after t d.2.0 ys d.2.2.1 found.0,
         λ ks f r. found.1 ks (subst (λ (z : List Token). Edits false (kinds z) ks) (sym d.2.2.1)
             (no_comma false (without_place t) (kinds ys) ks (one_class t.class SymComma d.2.2.0) f r)),
       )
@@ -267,7 +267,7 @@ ended_list_edits {b} {A} c {g} {writes} known G = record {
   edit = λ v xs ys d words.
       subst (λ (z : A). Changed (is_stop c) b (λ v rest. writes v (plain c ∷ rest)) z xs ys) d.1 (
       let found = G.edit d.0.0 xs d.2.0 d.2.1 words in (
-        words_behind d.0.1 d.2.0 ys d.2.2.1 found.0,
+        words_after d.0.1 d.2.0 ys d.2.2.1 found.0,
         λ ks r. found.1 (plain c ∷ ks) known (token_turns {b = false} {c = c} d.0.1 d.2.0 ys ks d.2.2.0 d.2.2.1 r),
       )
       );

@@ -23,7 +23,7 @@ abbrev pub first_among : List ℕ → List Kind → Bool
 first_among s [] = false
 first_among s (k ∷ ks) = is_among k.class s
 
--- what stands behind a list with commas, or nothing, and what begins a block
+-- what is after a list with commas, or nothing, and what begins a block
 abbrev pub list_ends : List ℕ
 list_ends = SymParenRight ∷ SymBraceRight ∷ SymBraceLeft ∷ SymAttr ∷ SymSemicolon ∷ TemplateArgsEnd ∷ []
 
@@ -35,8 +35,8 @@ abbrev pub block_begins : List ℕ
 block_begins = SymBraceLeft ∷ SymAttr ∷ []
 
 -- kinds that were read and kinds that are written: classes are kept, but a last comma, a colon
--- before a block and the `;` of an empty item are left out, `--` becomes `-` `-`, and `case` stands
--- before `default`; the truth value says that the token before is a stop or that nothing stands
+-- before a block and the `;` of an empty item are left out, `--` becomes `-` `-`, and `case` is
+-- before `default`; the truth value says that the token before is a stop or that nothing is
 -- before
 pub data Edits : Bool → List Kind → List Kind → Type 0 where
   at_the_end : (b : Bool) → Edits b [] []
@@ -52,7 +52,7 @@ pub data Edits : Bool → List Kind → List Kind → Type 0 where
   with_case : (b : Bool) (k : Kind) (s c : List Kind) → k.class ≡ KwDefault → Edits false s c
       → Edits b (k ∷ s) (plain KwCase ∷ (plain KwDefault ∷ c))
 
--- ---- what may stand before
+-- ---- what may be before
 -- what holds with the one before holds with the other
 abbrev pub Widens : Bool → Bool → Type 0
 Widens false b = Unit {0}
@@ -76,7 +76,7 @@ widen {e} {b} {s} {c} w m = go e b w m where
   go true false w m = absurd w
 
 -- ---- `reach`
--- behind a stop only what is within a template list counts
+-- after a stop only what is within a template list counts
 abbrev pub Counts : Bool → ℕ → Type 0
 Counts false k = Unit {0}
 Counts true zero = ⊥
@@ -162,7 +162,7 @@ edits_reach _ _ _ (with_case b t s c q m) p (suc k) d i =
     ap (λ (x : ℕ). reach_role (role x) (suc k) d (λ n e. reach p n e s)) q
     ∙ edits_reach false s c m p (suc k) d tt
 
--- ---- the `<` directly behind a word
+-- ---- the `<` directly after a word
 -- no class of a list is `<`
 abbrev none_less : List ℕ → Bool
 none_less [] = true
@@ -185,11 +185,11 @@ list_ended : (p : Place) (c : List Kind) → ends_list c ≡ true → NeverReach
 list_ended p [] f = tt
 list_ended p (t ∷ c) f = other_first p list_ends (t ∷ c) refl f
 
--- behind `<` all of what is outside of template lists counts
+-- after `<` all of what is outside of template lists counts
 less_counts : (c : ℕ) → c ≡ SymLessThan → Counts (is_stop c) 0
 less_counts c h = subst (λ (x : ℕ). Counts (is_stop x) 0) (sym h) tt
 
--- where no token is reached behind a `<` that was read, none is behind it as it is written
+-- where no token is reached after a `<` that was read, none is after it as it is written
 pub edits_never : (p : Place) (b : Bool) (s c : List Kind) → b ≡ false → Edits b s c
     → NeverReached p s → NeverReached p c
 edits_never p _ _ _ q (at_the_end b) h = tt

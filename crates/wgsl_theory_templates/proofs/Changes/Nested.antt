@@ -10,7 +10,7 @@ use Rattle.wgsl_model.specs.Tokens.Kind.{Kind}
 use Rattle.wgsl_theory_templates.proofs.Reaching.Reach.{Role, Role.template_start, Role.template_end, role, Place, Place.inside, reach}
 use Rattle.wgsl_theory_templates.proofs.Reaching.Moves.{kinds}
 use Rattle.wgsl_theory_templates.specs.Attempts.{less_signs}
-use Rattle.wgsl_theory_templates.proofs.Reaching.Behind.{NoListAt}
+use Rattle.wgsl_theory_templates.proofs.Reaching.After.{NoListAt}
 use Rattle.wgsl_theory_templates.proofs.Reaching.Clear.{template_ends, AllClear, done, other_token, template}
 use Rattle.wgsl_theory_templates.proofs.Lexed.RoleClasses.{Says, role_says, is_mark_role}
 use Rattle.wgsl_theory_templates.proofs.Changes.Edits.{Edits, at_the_end, kept, no_comma, no_colon, no_semicolon, two_minuses, with_case}
@@ -18,25 +18,25 @@ use Rattle.wgsl_theory_grammar.proofs.Tokens.Decided.{IsList}
 use Rattle.wgsl_theory_grammar.proofs.Faults.PlainFaults.{one_class}
 
 -- ---- kinds
--- behind a token, so many template lists deep
+-- after a token, a number of template lists deep
 abbrev pub nested_role : Role → ℕ → (ℕ → Type 0) → Type 0
 nested_role template_start k Next = Next (suc k)
 nested_role template_end zero Next = ⊥
 nested_role template_end (suc k) Next = Next k
 nested_role r k Next = Next k
 
--- from so many template lists deep, each is ended, and no other
+-- from a number of template lists deep, each is ended, and no other
 abbrev pub Nested : ℕ → List Kind → Type 0
 Nested k [] = k ≡ 0
 Nested k (t ∷ ts) = nested_role (role t.class) k (λ j. Nested j ts)
 
--- so many template lists deep within others
+-- a number of template lists deep within others
 abbrev pub within : ℕ → ℕ → ℕ
 within zero i = i
 within (suc k) i = suc (within k i)
 
 -- ---- a mark goes one level on or back, any other role leaves the level as it is
--- what holds at each level behind a token holds at another number of levels, if that goes up by one
+-- what holds at each level after a token holds at another number of levels, if that goes up by one
 -- as the level does
 nested_on : (r : Role) (out : ℕ → ℕ) (k : ℕ) (F G : ℕ → Type 0) → ((j : ℕ) → out (suc j) ≡ suc (out j))
     → ((j : ℕ) → F j → G (out j)) → nested_role r k F → nested_role r (out k) G
@@ -55,12 +55,12 @@ both_levels A template_end (suc k) zero F G f h g = absurd g
 both_levels A template_end (suc k) (suc i) F G f h g = f k i h g (λ e. cc) (λ e. ap (λ n. suc n) e)
 both_levels A r k i F G f h g = f k i h g (λ e. e) (λ e. e)
 
--- with more behind them
-pub nested_behind : (k i : ℕ) (us ts : List Token) → Nested k (kinds us) → Nested i (kinds ts)
+-- with more after them
+pub nested_after : (k i : ℕ) (us ts : List Token) → Nested k (kinds us) → Nested i (kinds ts)
     → Nested (within k i) (kinds (us ++ ts))
-nested_behind k i [] ts h g = subst (λ (n : ℕ). Nested (within n i) (kinds ts)) (sym h) g
-nested_behind k i (u ∷ us) ts h g = nested_on (role u.class) (λ j. within j i) k (λ j. Nested j (kinds us))
-    (λ j. Nested j (kinds (us ++ ts))) (λ j. refl) (λ j f. nested_behind j i us ts f g) h
+nested_after k i [] ts h g = subst (λ (n : ℕ). Nested (within n i) (kinds ts)) (sym h) g
+nested_after k i (u ∷ us) ts h g = nested_on (role u.class) (λ j. within j i) k (λ j. Nested j (kinds us))
+    (λ j. Nested j (kinds (us ++ ts))) (λ j. refl) (λ j f. nested_after j i us ts f g) h
 
 pub same_head : (t u : Token) (ts us : List Token) → t ∷ ts ≡ u ∷ us → t ≡ u
 same_head t u ts us e = cc
@@ -114,18 +114,18 @@ clear_nested _ _ _ (done p ys) e = subst (λ (z : List Token). Nested 0 (kinds z
 clear_nested _ _ _ (other_token p t rest ys none less a) e = unmarked_nested (role t.class) 0
     (λ j. Nested j (kinds rest)) (unmarked t.class none) (clear_nested p rest ys a e)
 clear_nested _ _ _ (template p start end mid rest ys v h i d c a) e =
-    let behind : Nested 1 (kinds (end ∷ rest)) = subst (λ (r : Role). nested_role r 1
+    let following : Nested 1 (kinds (end ∷ rest)) = subst (λ (r : Role). nested_role r 1
     (λ j. Nested j (kinds rest))) (sym (end_role end.class i)) (clear_nested p rest ys a e) in
     subst (λ (r : Role). nested_role r 0 (λ j. Nested j (kinds (mid ++ (end ∷ rest)))))
     (sym (start_role start.class h))
-    (nested_behind 0 1 mid (end ∷ rest) (clear_nested inside mid [] c refl) behind)
+    (nested_after 0 1 mid (end ∷ rest) (clear_nested inside mid [] c refl) following)
 
--- what is clear behind a token that is no mark
-pub clear_behind : (p : Place) (xs ys : List Token) → AllClear p xs ys → ys ≡ []
+-- what is clear after a token that is no mark
+pub clear_after : (p : Place) (xs ys : List Token) → AllClear p xs ys → ys ≡ []
     → (t : Token) (ts : List Token) → xs ≡ t ∷ ts → is_mark_role (role t.class) ≡ false
     → (t.class ≡ SymLessThan → NoListAt p ts → reach p 0 0 (kinds ts) ≡ false) × AllClear p ts []
-clear_behind _ _ _ (done p ys) e t ts w m = absurd (cc)
-clear_behind _ _ _ (other_token p u rest ys none less a) e t ts w m =
+clear_after _ _ _ (done p ys) e t ts w m = absurd (cc)
+clear_after _ _ _ (other_token p u rest ys none less a) e t ts w m =
     let head = same_head u t rest ts w in
     let tail = tail_of u t rest ts w in (
       λ l n. subst (λ (z : List Token). reach p 0 0 (kinds z) ≡ false) tail
@@ -133,11 +133,11 @@ clear_behind _ _ _ (other_token p u rest ys none less a) e t ts w m =
           (subst (λ (z : List Token). NoListAt p z) (sym tail) n)),
       subst (λ (z : List Token). AllClear p z []) tail (subst (λ (z : List Token). AllClear p rest z) e a),
     )
-clear_behind _ _ _ (template p start end mid rest ys v h i d c a) e t ts w m =
+clear_after _ _ _ (template p start end mid rest ys v h i d c a) e t ts w m =
     clash _ (ap (λ (x : Token). is_mark_role (role x.class))
     (sym (same_head start t (mid ++ (end ∷ rest)) ts w)) ∙ ap is_mark_role (start_role start.class h)) m
 
--- what is clear in a template list and behind it
+-- what is clear in a template list and after it
 pub clear_template : (p : Place) (xs ys : List Token) → AllClear p xs ys → ys ≡ []
     → (start end : Token) (us ts : List Token) → xs ≡ start ∷ (us ++ (end ∷ ts))
     → role start.class ≡ template_start → role end.class ≡ template_end → Nested 0 (kinds us)

@@ -13,7 +13,7 @@ use Rattle.wgsl_theory_templates.proofs.Changes.EditStatementParts.{assignment_o
 use Rattle.wgsl_theory_templates.proofs.Changes.EditStatementRules.{assert_edits, attributed_edits, block_edits, continuing_edits, ended_edits, increased_edits, item_edits, left_side_edits, switch_clause_right, underscore_edits, unended_edits, value_kind_edits, void_edits}
 use Rattle.wgsl_theory_templates.proofs.Changes.EditSymbols.{IsTurned, symbol_edits}
 use Rattle.wgsl_theory_templates.proofs.Changes.EditUnitRules.{declaration_edits, diagnostic_directive_right, directive_edits, empty_declaration_edits, filled_edits, function_declaration_right, names_edits, placed_edits}
-use Rattle.wgsl_theory_templates.proofs.Changes.EditWays.{Changes, before_edits, behind_edits, edit_write, ended_list_edits, gives_edits, list_edits, list_or_none_edits, makes_edits, means_edits, optional_edits, or_edits, then_edits}
+use Rattle.wgsl_theory_templates.proofs.Changes.EditWays.{Changes, after_edits, before_edits, edit_write, ended_list_edits, gives_edits, list_edits, list_or_none_edits, makes_edits, means_edits, optional_edits, or_edits, then_edits}
 
 type_specifier_right :
     {b : Bool} → Changes (closing type_specifier) b (written type_specifier)
@@ -47,7 +47,7 @@ primary_expression_right =
     (or_edits (gives_edits (symbol_edits call tt) (λ a rest. refl))
     (or_edits (gives_edits (symbol_edits literal tt) (λ a rest. refl))
     (gives_edits (before_edits SymParenLeft
-    (behind_edits {m = closing expression} SymParenRight (symbol_edits expression tt)))
+    (after_edits {m = closing expression} SymParenRight (symbol_edits expression tt)))
     (λ a rest. refl)))))
 
 singular_expression_right :
@@ -133,7 +133,7 @@ compound_statement_right :
     (edit_write compound_statement)
 compound_statement_right =
     gives_edits (then_edits attributes_edits
-    (before_edits SymBraceLeft (behind_edits {m = true} SymBraceRight statements_edits)))
+    (before_edits SymBraceLeft (after_edits {m = true} SymBraceRight statements_edits)))
     (λ a rest. refl)
 
 pub statement_right : Changes true true (written statement) (edit_write statement)
@@ -155,7 +155,7 @@ statement_right =
     (or_edits (ended_edits {g = symbol increment} (λ v xs ys h. h))
     (or_edits (ended_edits {g = symbol decrement} (λ v xs ys h. h))
     (or_edits block_edits (gives_edits
-    (behind_edits {m = closing const_assert} SymSemicolon (symbol_edits const_assert tt))
+    (after_edits {m = closing const_assert} SymSemicolon (symbol_edits const_assert tt))
     (λ a rest. refl))))))))))))))))))))
 
 return_statement_right :
@@ -180,7 +180,7 @@ switch_statement_right =
     attributed_edits (gives_edits (before_edits KwSwitch
     (then_edits (symbol_edits expression tt)
     (then_edits attributes_edits
-    (before_edits SymBraceLeft (behind_edits {m = true} SymBraceRight clauses_edits)))))
+    (before_edits SymBraceLeft (after_edits {m = true} SymBraceRight clauses_edits)))))
     (λ a rest. refl))
 
 loop_statement_right :
@@ -189,7 +189,7 @@ loop_statement_right :
 loop_statement_right =
     attributed_edits (gives_edits (before_edits KwLoop
     (then_edits attributes_edits (before_edits SymBraceLeft
-    (behind_edits {m = true} SymBraceRight (then_edits statements_edits maybe_continuing_edits)))))
+    (after_edits {m = true} SymBraceRight (then_edits statements_edits maybe_continuing_edits)))))
     (λ a rest. refl))
 
 for_statement_right :
@@ -198,10 +198,10 @@ for_statement_right :
 for_statement_right =
     attributed_edits (gives_edits (before_edits KwFor
     (before_edits SymParenLeft (then_edits
-    (behind_edits {m = false} SymSemicolon (part_edits (symbol_edits for_init tt)))
-    (then_edits (behind_edits {m = closing expression} SymSemicolon
+    (after_edits {m = false} SymSemicolon (part_edits (symbol_edits for_init tt)))
+    (then_edits (after_edits {m = closing expression} SymSemicolon
     (optional_edits {e = closing expression} tt (symbol_edits expression tt)))
-    (then_edits (behind_edits {m = false} SymParenRight (part_edits (symbol_edits for_update tt)))
+    (then_edits (after_edits {m = false} SymParenRight (part_edits (symbol_edits for_update tt)))
     (symbol_edits compound_statement tt)))))) (λ a rest. refl))
 
 while_statement_right :
@@ -268,7 +268,7 @@ increment_right = gives_edits increased_edits (λ a rest. refl)
 decrement_right :
     {b : Bool} → Changes (closing decrement) b (written decrement) (edit_write decrement)
 decrement_right =
-    gives_edits (behind_edits {m = false} SymMinusMinus left_side_edits) (λ a rest. refl)
+    gives_edits (after_edits {m = false} SymMinusMinus left_side_edits) (λ a rest. refl)
 
 const_assert_right :
     {b : Bool} → Changes (closing const_assert) b (written const_assert) (edit_write const_assert)
@@ -287,7 +287,7 @@ continuing_statement_right :
 continuing_statement_right =
     continuing_edits (gives_edits (before_edits KwContinuing
     (then_edits attributes_edits (before_edits SymBraceLeft
-    (behind_edits {m = true} SymBraceRight
+    (after_edits {m = true} SymBraceRight
     (then_edits statements_edits (optional_edits {e = true} {b = true} tt break_if_edits))))))
     (λ a rest. refl))
 
@@ -323,7 +323,7 @@ struct_member_right :
     (edit_write struct_member)
 struct_member_right =
     makes_edits (then_edits attributes_edits
-    (then_edits (behind_edits {m = closing ident} SymColon (symbol_edits ident tt))
+    (then_edits (after_edits {m = closing ident} SymColon (symbol_edits ident tt))
     (symbol_edits type_specifier tt))) (λ a span rest. refl)
 
 formal_parameter_right :
@@ -331,7 +331,7 @@ formal_parameter_right :
     (edit_write formal_parameter)
 formal_parameter_right =
     gives_edits (then_edits attributes_edits
-    (then_edits (behind_edits {m = closing ident} SymColon (symbol_edits ident tt))
+    (then_edits (after_edits {m = closing ident} SymColon (symbol_edits ident tt))
     (symbol_edits type_specifier tt))) (λ a rest. refl)
 
 pub global_declaration_right :
@@ -345,7 +345,7 @@ global_declaration_right =
     (or_edits (filled_edits {g = symbol struct_declaration} (λ v xs ys h. h))
     (or_edits (filled_edits {g = symbol function_declaration} (λ v xs ys h. h))
     (gives_edits
-    (behind_edits {m = closing const_assert} SymSemicolon (symbol_edits const_assert tt))
+    (after_edits {m = closing const_assert} SymSemicolon (symbol_edits const_assert tt))
     (λ a rest. refl)))))))))
 
 var_declaration_right :
@@ -354,7 +354,7 @@ var_declaration_right :
 var_declaration_right =
     declaration_edits (gives_edits
     (then_edits var_kind_edits (then_edits (symbol_edits typed_ident tt)
-    (behind_edits {m = false} SymSemicolon (optional_edits {e = false} tt initializer_edits))))
+    (after_edits {m = false} SymSemicolon (optional_edits {e = false} tt initializer_edits))))
     (λ a rest. refl))
 
 const_declaration_right :
@@ -363,7 +363,7 @@ const_declaration_right :
 const_declaration_right =
     declaration_edits (gives_edits
     (before_edits KwConst (then_edits (symbol_edits typed_ident tt)
-    (behind_edits {m = false} SymSemicolon initializer_edits))) (λ a rest. refl))
+    (after_edits {m = false} SymSemicolon initializer_edits))) (λ a rest. refl))
 
 override_declaration_right :
     {b : Bool} → Changes (closing override_declaration) b (written override_declaration)
@@ -371,7 +371,7 @@ override_declaration_right :
 override_declaration_right =
     declaration_edits (gives_edits
     (before_edits KwOverride (then_edits (symbol_edits typed_ident tt)
-    (behind_edits {m = false} SymSemicolon (optional_edits {e = false} tt initializer_edits))))
+    (after_edits {m = false} SymSemicolon (optional_edits {e = false} tt initializer_edits))))
     (λ a rest. refl))
 
 alias_declaration_right :
@@ -381,7 +381,7 @@ alias_declaration_right =
     declaration_edits (gives_edits
     (before_edits KwAlias (then_edits (symbol_edits ident tt)
     (before_edits SymEqual
-    (behind_edits {m = closing type_specifier} SymSemicolon (symbol_edits type_specifier tt)))))
+    (after_edits {m = closing type_specifier} SymSemicolon (symbol_edits type_specifier tt)))))
     (λ a rest. refl))
 
 struct_declaration_right :

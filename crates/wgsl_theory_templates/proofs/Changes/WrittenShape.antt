@@ -21,11 +21,11 @@ use Rattle.wgsl_theory_templates.proofs.Lexed.RoleClasses.{is_mark_role, word_un
 use Rattle.wgsl_theory_templates.proofs.Lexed.SourceShape.{source_shape}
 use Rattle.wgsl_theory_templates.proofs.Changes.Edits.{is_stop_role, is_stop, first_among, ends_list, block_begins, Edits, at_the_end, kept, no_comma, no_colon, no_semicolon, two_minuses, with_case, edits_never}
 use Rattle.wgsl_theory_templates.proofs.Changes.DerivedEdits.{unit_edited}
-use Rattle.wgsl_theory_templates.proofs.Changes.Nested.{Nested, clear_nested, clear_behind, clear_template, edits_nested}
+use Rattle.wgsl_theory_templates.proofs.Changes.Nested.{Nested, clear_nested, clear_after, clear_template, edits_nested}
 use Rattle.wgsl_theory_grammar.proofs.Tokens.Decided.{IsList}
 
 -- ---- one token
--- what is written in place of a token and those behind it: a token of the same class, nothing, two
+-- what is written in place of a token and those after it: a token of the same class, nothing, two
 -- tokens for `--`, or `case` before `default`
 data Written (a : ℕ) (s : List Kind) : List Kind → Type 0 where
   one : (j : Kind) (c : List Kind) → a ≡ j.class → Edits (is_stop a) s c → Written a s (j ∷ c)
@@ -83,7 +83,7 @@ greater_is_not_plain Role.greater_stop h = (refl, refl)
 greater_is_not_plain r h = absurd cc
 
 -- ---- all tokens of the kinds
--- kinds whose tokens, wherever they stand, are clear
+-- kinds whose tokens, wherever they are, are clear
 abbrev ClearAnywhere : Place → List Kind → Type 0
 ClearAnywhere p c = (qs : List Token) → kinds qs ≡ c → AllClear p qs []
 
@@ -95,9 +95,9 @@ kinds_somewhere : (c : List Kind) → kinds (somewhere c) ≡ c
 kinds_somewhere [] = refl
 kinds_somewhere (k ∷ c) = ap (λ (x : List Kind). k ∷ x) (kinds_somewhere c)
 
-behind_token : (p : Place) (j : Kind) (c : List Kind) → is_mark_role (role j.class) ≡ false
+after_token : (p : Place) (j : Kind) (c : List Kind) → is_mark_role (role j.class) ≡ false
     → ClearAnywhere p (j ∷ c) → ClearAnywhere p c
-behind_token p j c m h qs e = (clear_behind p (placed j 0 0 ∷ qs) []
+after_token p j c m h qs e = (clear_after p (placed j 0 0 ∷ qs) []
     (h (placed j 0 0 ∷ qs) (ap (λ (x : List Kind). j ∷ x) e)) refl (placed j 0 0) qs refl m).1
 
 -- a template list in them, and the rest
@@ -114,7 +114,7 @@ template_parts p start end us ts f g n h ms rs e r =
     (h (first ∷ (ms ++ (last ∷ rs))) all) refl first last ms rs refl f g (subst (Nested 0) (sym e) n)
 
 -- ---- the end of a template list
--- the kinds before it and behind it, as they are written
+-- the kinds before it and after it, as they are written
 record Split (b : Bool) (us s c : List Kind) : Type 0 where
   list : List Kind
   end : Kind
@@ -123,7 +123,7 @@ record Split (b : Bool) (us s c : List Kind) : Type 0 where
   ended : role end.class ≡ template_end
   before : Edits b us list
   other : Bool
-  behind : Edits other s rest
+  following : Edits other s rest
 
 at_end_mark : (b : Bool) (e : Kind) (s c : List Kind) → role e.class ≡ template_end → Edits b (e ∷ s) c → Split b [] s c
 at_end_mark b e s c r h =
@@ -136,7 +136,7 @@ at_end_mark b e s c r h =
       ended = ap role (sym w.3) ∙ r;
       before = at_the_end b;
       other = is_stop e.class;
-      behind = w.4;
+      following = w.4;
     }
 
 ends_before : (list : List Kind) (end : Kind) (rest c : List Kind) → c ≡ list ++ (end ∷ rest)
@@ -164,7 +164,7 @@ split _ (_ ∷ us) e s _ r (kept b k j t c q m) =
       ended = w.ended;
       before = kept b k j us w.list q w.before;
       other = w.other;
-      behind = w.behind;
+      following = w.following;
     }
 split _ (_ ∷ us) e s _ r (no_comma b k t c q f m) =
     let w = split false us e s c r m in
@@ -176,7 +176,7 @@ split _ (_ ∷ us) e s _ r (no_comma b k t c q f m) =
       ended = w.ended;
       before = no_comma b k us w.list q (ends_before w.list w.end w.rest c w.whole f) w.before;
       other = w.other;
-      behind = w.behind;
+      following = w.following;
     }
 split _ (_ ∷ us) e s _ r (no_colon b k t c q f m) =
     let w = split false us e s c r m in
@@ -188,7 +188,7 @@ split _ (_ ∷ us) e s _ r (no_colon b k t c q f m) =
       ended = w.ended;
       before = no_colon b k us w.list q (block_before w.list w.end w.rest c w.ended w.whole f) w.before;
       other = w.other;
-      behind = w.behind;
+      following = w.following;
     }
 split _ (_ ∷ us) e s _ r (no_semicolon k t c q m) =
     let w = split true us e s c r m in
@@ -200,7 +200,7 @@ split _ (_ ∷ us) e s _ r (no_semicolon k t c q m) =
       ended = w.ended;
       before = no_semicolon k us w.list q w.before;
       other = w.other;
-      behind = w.behind;
+      following = w.following;
     }
 split _ (_ ∷ us) e s _ r (two_minuses b k t c q m) =
     let w = split false us e s c r m in
@@ -212,7 +212,7 @@ split _ (_ ∷ us) e s _ r (two_minuses b k t c q m) =
       ended = w.ended;
       before = two_minuses b k us w.list q w.before;
       other = w.other;
-      behind = w.behind;
+      following = w.following;
     }
 split _ (_ ∷ us) e s _ r (with_case b k t c q m) =
     let w = split false us e s c r m in
@@ -224,7 +224,7 @@ split _ (_ ∷ us) e s _ r (with_case b k t c q m) =
       ended = w.ended;
       before = with_case b k us w.list q w.before;
       other = w.other;
-      behind = w.behind;
+      following = w.following;
     }
 
 -- ---- tokens that have the shape of a source
@@ -232,22 +232,22 @@ split _ (_ ∷ us) e s _ r (with_case b k t c q m) =
 abbrev Turned : Place → ℕ → List Token → Type 0
 Turned p depth ts = (b : Bool) (c : List Kind) → Edits b (kinds ts) c → ClearAnywhere p c → IsWrittenShape p depth c
 
--- behind a `<` in a source that is clear no token is reached
+-- after a `<` in a source that is clear no token is reached
 pub never_reached : (p : Place) (ts : List Token) → NotReached p ts → AllClear p ts [] → NeverReached p (kinds ts)
 never_reached p [] n a = tt
 never_reached p (t ∷ ts) n a =
-    λ l. (clear_behind p (t ∷ ts) [] a refl t ts refl (ap (λ (x : ℕ). is_mark_role (role x)) l)).0 l (n l)
+    λ l. (clear_after p (t ∷ ts) [] a refl t ts refl (ap (λ (x : ℕ). is_mark_role (role x)) l)).0 l (n l)
 
 plain_turned : (p : Place) (depth : ℕ) (t : Token) (ts : List Token)
     → is_plain_role (role t.class) ≡ true → Turned p depth ts → (c : List Kind)
     → Written t.class (kinds ts) c → ClearAnywhere p c → IsWrittenShape p depth c
 plain_turned p depth t ts e all _ (one j c q m) h =
     let known : is_plain_role (role j.class) ≡ true = by_class is_plain_role j.class t.class (sym q) e in
-    shape_plain known (all (is_stop t.class) c m (behind_token p j c (plain_unmarked (role j.class) known) h))
+    shape_plain known (all (is_stop t.class) c m (after_token p j c (plain_unmarked (role j.class) known) h))
 plain_turned p depth t ts e all _ (none b c _ m) h = all b c m h
 plain_turned p depth t ts e all _ (two c _ m) h =
-    shape_plain refl (shape_plain refl (all false c m (behind_token p (plain SymMinus) c refl
-    (behind_token p (plain SymMinus) (plain SymMinus ∷ c) refl h))))
+    shape_plain refl (shape_plain refl (all false c m (after_token p (plain SymMinus) c refl
+    (after_token p (plain SymMinus) (plain SymMinus ∷ c) refl h))))
 plain_turned p depth t ts e all _ (case_before c w m) h = clash _ w (plain_is_no_word (role t.class) e)
 
 default_first : (p : Place) (c : List Kind) → NeverReached p (plain KwDefault ∷ c)
@@ -260,15 +260,15 @@ word_turned p depth t ts e n all _ (one j c q m) h =
     let known : is_word_role (role j.class) ≡ true = by_class is_word_role j.class t.class (sym q) e in
     shape_word known
     (none_reached p c (edits_never p (is_stop t.class) (kinds ts) c (word_is_no_stop (role t.class) e) m n))
-    (all (is_stop t.class) c m (behind_token p j c (word_unmarked (role j.class) known) h))
+    (all (is_stop t.class) c m (after_token p j c (word_unmarked (role j.class) known) h))
 word_turned p depth t ts e n all _ (none b c f m) h = clash _ f (word_is_not_plain (role t.class) e)
 word_turned p depth t ts e n all _ (two c f m) h = clash _ f (word_is_not_plain (role t.class) e)
 word_turned p depth t ts e n all _ (case_before c w m) h =
     shape_word refl (none_reached p (plain KwDefault ∷ c) (default_first p c))
     (shape_word refl (none_reached p c (edits_never p false (kinds ts) c refl m n)) (all false c m
-    (behind_token p (plain KwDefault) c refl (behind_token p (plain KwCase) (plain KwDefault ∷ c) refl h))))
+    (after_token p (plain KwDefault) c refl (after_token p (plain KwCase) (plain KwDefault ∷ c) refl h))))
 
--- a word with a template list behind it
+-- a word with a template list after it
 module _ (p : Place) (depth : ℕ) (start end : Token) (us ts : List Token)
     (f : role start.class ≡ template_start) (g : role end.class ≡ template_end) (l : IsList us)
     (inner : Turned inside 0 us) (all : Turned p depth ts) where
@@ -285,12 +285,12 @@ module _ (p : Place) (depth : ℕ) (start end : Token) (us ts : List Token)
       let nested : Nested 0 s.list = edits_nested (is_stop start.class) (kinds us) s.list s.before 0
       (clear_nested inside us [] (list_clear l.0 us l.1) refl) in
       let parts = template_parts p w.0 s.end s.list s.rest begun s.ended nested
-      (subst (ClearAnywhere p) whole (behind_token p j c (word_unmarked (role j.class) e) h)) in
+      (subst (ClearAnywhere p) whole (after_token p j c (word_unmarked (role j.class) e) h)) in
       subst (λ (x : List Kind). IsWrittenShape p depth (j ∷ x)) (sym whole)
       (shape_template j w.0 s.end s.list s.rest e begun s.ended
       (inner (is_stop start.class) s.list s.before (λ qs r. (parts qs (somewhere s.rest) r (kinds_somewhere s.rest)).0))
       (λ qs r. (parts qs (somewhere s.rest) r (kinds_somewhere s.rest)).1)
-      (all s.other s.rest s.behind (λ qs r. (parts (somewhere s.list) qs (kinds_somewhere s.list) r).2)))
+      (all s.other s.rest s.following (λ qs r. (parts (somewhere s.list) qs (kinds_somewhere s.list) r).2)))
 
   template_turned : (t : Token) → is_word_role (role t.class) ≡ true → (c : List Kind)
       → Written t.class (kinds (start ∷ (us ++ (end ∷ ts)))) c → ClearAnywhere p c
@@ -301,7 +301,7 @@ module _ (p : Place) (depth : ℕ) (start end : Token) (us ts : List Token)
   template_turned t e _ (two c w m) h = clash _ w (word_is_not_plain (role t.class) e)
   template_turned t e _ (case_before c w m) h = shape_word refl
       (none_reached p (plain KwDefault ∷ c) (default_first p c))
-      (list_turned (plain KwDefault) refl false c m (behind_token p (plain KwCase) (plain KwDefault ∷ c) refl h))
+      (list_turned (plain KwDefault) refl false c m (after_token p (plain KwCase) (plain KwDefault ∷ c) refl h))
 
 -- a token in whose place one of the same class is written
 record Next (p : Place) (t : Token) (ts : List Token) (c : List Kind) : Type 0 where
@@ -325,8 +325,8 @@ next p t ts b c e f g a m h =
       whole = w.2;
       same = same;
       edits = w.4;
-      clear = (clear_behind p (t ∷ ts) [] a refl t ts refl g).1;
-      anywhere = behind_token p w.0 w.1 (ap is_mark_role same ∙ g) (subst (ClearAnywhere p) w.2 h);
+      clear = (clear_after p (t ∷ ts) [] a refl t ts refl g).1;
+      anywhere = after_token p w.0 w.1 (ap is_mark_role same ∙ g) (subst (ClearAnywhere p) w.2 h);
     }
 
 turned : {p : Place} {depth : ℕ} {ts : List Token} → IsSourceShape p depth ts → AllClear p ts [] → Turned p depth ts
@@ -349,17 +349,17 @@ turned {p} {depth} (shape_short_circuit {t = t} {ts = ts} e d s) a b c m h =
     subst (IsWrittenShape p depth) (sym n.whole)
     (shape_short_circuit (n.same ∙ e) d (turned s n.clear (is_stop t.class) n.rest n.edits n.anywhere))
 turned {p} {depth} (shape_plain {t = t} {ts = ts} e s) a b c m h =
-    let clear = (clear_behind p (t ∷ ts) [] a refl t ts refl (plain_unmarked (role t.class) e)).1 in
+    let clear = (clear_after p (t ∷ ts) [] a refl t ts refl (plain_unmarked (role t.class) e)).1 in
     plain_turned p depth t ts e (turned s clear) c (written_for b (without_place t) (kinds ts) c m) h
 turned {p} {depth} (shape_word {t = t} {ts = ts} e n s) a b c m h =
-    let clear = (clear_behind p (t ∷ ts) [] a refl t ts refl (word_unmarked (role t.class) e)).1 in
+    let clear = (clear_after p (t ∷ ts) [] a refl t ts refl (word_unmarked (role t.class) e)).1 in
     word_turned p depth t ts e (never_reached p ts n clear) (turned s clear) c
     (written_for b (without_place t) (kinds ts) c m) h
 turned {p} {depth} (shape_template t start end us ts e f g i l s) a b c m h =
-    let clear = (clear_behind p _ [] a refl t (start ∷ (us ++ (end ∷ ts))) refl (word_unmarked (role t.class) e)).1 in
+    let clear = (clear_after p _ [] a refl t (start ∷ (us ++ (end ∷ ts))) refl (word_unmarked (role t.class) e)).1 in
     let inner = list_clear l.0 us l.1 in
-    let behind = (clear_template p _ [] clear refl start end us ts refl f g (clear_nested inside us [] inner refl)).2 in
-    template_turned p depth start end us ts f g l (turned i inner) (turned s behind) t e c
+    let following = (clear_template p _ [] clear refl start end us ts refl f g (clear_nested inside us [] inner refl)).2 in
+    template_turned p depth start end us ts f g l (turned i inner) (turned s following) t e c
     (written_for b (without_place t) (kinds (start ∷ (us ++ (end ∷ ts)))) c m) h
 
 -- ---- modules

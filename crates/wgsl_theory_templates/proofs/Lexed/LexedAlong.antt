@@ -7,16 +7,16 @@ use Rattle.wgsl_model.specs.Tokens.Templates.{begins_with_greater}
 use Rattle.wgsl_theory_templates.proofs.Reaching.Reach.{Role, Role.template_start, Role.template_end, role, Place, Place.outside, Place.inside}
 use Rattle.wgsl_theory_templates.proofs.Lexed.RoleClasses.{is_mark_role}
 
--- the text begins with a token of the kind, and goes on so behind it
+-- the text begins with a token of the kind, and goes on so after it
 abbrev pub BeginsWith : Kind → (List ℕ → Type 0) → List ℕ → Type 0
 BeginsWith k Rest text = (from after : List ℕ) × (raw text ≡ token k from after) × Rest after
 
--- the text begins with `<`, and goes on so behind it
+-- the text begins with `<`, and goes on so after it
 abbrev pub BeginsWithLess : (List ℕ → Type 0) → List ℕ → Type 0
 BeginsWithLess Rest text = (kind : Kind) × (from after : List ℕ)
     × (raw text ≡ token kind from after) × (kind.class ≡ SymLessThan) × Rest after
 
--- the text begins with a token that begins with `>`, and goes on so behind that one character
+-- the text begins with a token that begins with `>`, and goes on so after that one character
 abbrev pub BeginsWithGreater : (List ℕ → Type 0) → List ℕ → Type 0
 BeginsWithGreater Rest text = (kind : Kind) × (from after : List ℕ)
     × (raw text ≡ token kind from after) × (begins_with_greater kind.class ≡ true) × Rest (drop 1 from)

@@ -1,4 +1,4 @@
--- Where a token that begins with `>` is reached behind a `<`, the text has a run up to it.
+-- Where a token that begins with `>` is reached after a `<`, the text has a run up to it.
 use Rattle.std.proofs.Common.{◌≡◌, ℕ, zero, suc, ◌+◌, ◌≤◌, Bool, true, false, List, [], ◌∷◌, ◌++◌, map, drop, length, refl, sym, ap, subst, ◌∙◌, arith}
 use Rattle.std.proofs.lemmas.List.{map-append, length-map}
 use Rattle.grammar.specs.Tokens.{Token, first_tokens}
@@ -57,12 +57,12 @@ pub template_closed : (total : ℕ) → AllClosed (Template total)
 template_closed total text ts rest h = up_to_closed (length text) total text ts rest h
 
 -- ---- the run up to the token that is reached
--- the tokens before it stand inside a template list
+-- the tokens before it are inside a template list
 abbrev pub Reached : ℕ → TemplateRelation → ℕ → List ℕ → List Token → Type 0
 Reached total R d text ts = (end : List ℕ)
     × Inside total R d text (first_tokens (ahead 0 d (map without_place ts)) ts) end
 
--- how many brackets are open behind a token
+-- how many brackets are open after a token
 abbrev next_depth : Role → ℕ → ℕ
 next_depth opening d = suc d
 next_depth closing zero = zero
@@ -137,8 +137,8 @@ over_list : (total : ℕ) (R : TemplateRelation) (p : Place) (d : ℕ) (text : L
 over_list total R p d text k from after rest us vs e w q c go h =
     let joined = map-append without_place us vs in
     let role_word = word_role k.class w in
-    let behind = word_passed (role k.class) role_word d (λ i j. reach p i j (map without_place (us ++ vs))) h in
-    let g = go (sym (ap (λ (x : List Kind). reach p 0 d x) joined ∙ c.reached p 0 d (map without_place vs)) ∙ behind) in
+    let following = word_passed (role k.class) role_word d (λ i j. reach p i j (map without_place (us ++ vs))) h in
+    let g = go (sym (ap (λ (x : List Kind). reach p 0 d x) joined ∙ c.reached p 0 d (map without_place vs)) ∙ following) in
     let count : ahead 0 d (map without_place (us ++ vs)) ≡ length us + ahead 0 d (map without_place vs) =
     ap (λ (x : List Kind). ahead 0 d x) joined ∙ c.counted 0 d (map without_place vs)
     ∙ ap (λ (n : ℕ). n + ahead 0 d (map without_place vs)) (length-map us without_place) in

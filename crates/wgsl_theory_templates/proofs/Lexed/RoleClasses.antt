@@ -90,7 +90,7 @@ closing_class c e = subst (λ (r : Role). Says c r) e (role_says c)
 pub short_circuit_class : (c : ℕ) → role c ≡ short_circuit → is_short_circuit c ≡ true
 short_circuit_class c e = subst (λ (r : Role). Says c r) e (role_says c)
 
--- ---- what a list goes on behind
+-- ---- what a list goes on after
 pub plain_goes_on : (depth c : ℕ) → IsPlain c → goes_on depth c ≡ true
 plain_goes_on zero c h = goes_on_zero c h.1 h.2 h.3 h.4
 plain_goes_on (suc depth) c h = goes_on_deeper depth c h.1 h.2

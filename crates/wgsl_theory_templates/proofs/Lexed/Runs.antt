@@ -13,7 +13,7 @@ use Rattle.wgsl_model.specs.Tokens.TokenList.{TokensOf, at_end, before_template,
 use Rattle.wgsl_theory_grammar.proofs.Tokens.Bounds.{template_is}
 use Rattle.wgsl_theory_grammar.proofs.Tokens.Classes.{word_goes_on, opening_word, closing_word}
 use Rattle.wgsl_theory_grammar.proofs.Tokens.Decided.{enclosed_kind}
-use Rattle.wgsl_theory_grammar.proofs.Tokens.Inside.{at, Behind, behind_list, behind_none, step_at, from_greater, from_opening, from_closing, from_short_circuit, from_other}
+use Rattle.wgsl_theory_grammar.proofs.Tokens.Inside.{at, After, after_list, after_none, step_at, from_greater, from_opening, from_closing, from_short_circuit, from_other}
 use Rattle.wgsl_theory_grammar.proofs.Tokens.Unique.{marked, template_unique}
 use Rattle.wgsl_theory_reread.specs.CanonicalUnits.{without_place}
 use Rattle.wgsl_theory_templates.proofs.Reaching.Reach.{Role, Role.name, Role.keyword, Role.greater, Role.greater_stop, Role.stop, Role.other, Role.template_start, Role.template_end, role, Place, Place.outside, Place.inside, reach_role, reach, ahead_role, ahead}
@@ -89,7 +89,7 @@ within_closing : (p : Place) (d depth deep : ℕ) → deep ≡ deeper p depth �
 within_closing outside d depth deep e w = tt
 within_closing inside d depth deep e w = omega (arith, e, w)
 
--- kinds up to one behind others
+-- kinds up to one after others
 take_over : (us : List Kind) (n : ℕ) (k : Kind) (ks : List Kind)
     → take (length us + suc n) (us ++ (k ∷ ks)) ≡ us ++ (k ∷ take n ks)
 take_over [] n k ks = let one : 0 + suc n ≡ suc n = omega arith in ap (λ (m : ℕ). take m (k ∷ ks)) one
@@ -117,21 +117,21 @@ module _ (total : ℕ) where
   abbrev In : ℕ → List ℕ → List Token → List ℕ → Type 0
   In d text ts end = Inside total (Template total) d text ts end
 
-  -- what a run does not stop at, at its first token and behind it
-  no_stop_behind : (k : Kind) (from after : List ℕ) (ts us : List Token)
+  -- what a run does not stop at, at its first token and after it
+  no_stop_after : (k : Kind) (from after : List ℕ) (ts us : List Token)
       → ts ≡ at total k from after ∷ us → NoStop (map without_place ts)
       → (is_stop_role (role k.class) ≡ false) × NoStop (map without_place us)
-  no_stop_behind k from after ts us e n = subst (λ (x : List Token). NoStop (map without_place x)) e n
+  no_stop_after k from after ts us e n = subst (λ (x : List Token). NoStop (map without_place x)) e n
 
   no_stop_end : (us ts : List Token) → NoStop (map without_place (us ++ ts)) → NoStop (map without_place ts)
   no_stop_end [] ts n = n
   no_stop_end (u ∷ us) ts n = no_stop_end us ts n.1
 
-  -- behind a token that is no word no template list stands
+  -- after a token that is no word no template list is
   no_list : (word : Bool) (d : ℕ) (text : List ℕ) (ts : List Token) (end : List ℕ) → word ≡ false
-      → Behind total (Template total) word d text ts end → In d text ts end
-  no_list word d text ts end e (behind_list w us vs rest q f h) = clash word w e
-  no_list word d text ts end e (behind_none n h) = h
+      → After total (Template total) word d text ts end → In d text ts end
+  no_list word d text ts end e (after_list w us vs rest q f h) = clash word w e
+  no_list word d text ts end e (after_none n h) = h
 
   -- a run comes to a token that begins with `>`, and its tokens are those before it
   abbrev Runs : Place → ℕ → List Kind → List Token → Type 0
@@ -144,7 +144,7 @@ module _ (total : ℕ) where
   one_more k ks from after ts us m n e q h = ap (map without_place) e
       ∙ ap (λ (x : List Kind). k ∷ x) h ∙ sym (ap (λ (i : ℕ). take i (k ∷ ks)) q)
 
-  -- a run over kinds, and the text behind the character that ends it
+  -- a run over kinds, and the text after the character that ends it
   abbrev Found : ℕ → List Kind → (List ℕ → Type 0) → List ℕ → Type 0
   Found depth ks Rest text = (ts : List Token) × (end : List ℕ) × In depth text ts end
       × (map without_place ts ≡ ks) × Rest (drop 1 end)
@@ -179,7 +179,7 @@ module _ (total : ℕ) where
         further = w.4.1;
       }
 
-  -- a `<` behind which a template list stands is the first kind
+  -- a `<` after which a template list is is the first kind
   refuse : (p : Place) (k : Kind) (ks : List Kind) (End : List ℕ → Type 0) (text : List ℕ)
       → is_mark_role (role k.class) ≡ false → NoListReached p (k ∷ ks) → AlongTo (k ∷ ks) End text
       → ((after : List ℕ) (ts : List Token) (end : List ℕ) → AlongTo ks End after
@@ -220,7 +220,7 @@ module _ (total : ℕ) where
       let less : h.0.class ≡ SymLessThan = ap (λ (x : Kind). x.class) kind ∙ e.6 in
       clash _ h.4 (ap (λ (c : ℕ). begins_with_greater c) less)
 
-  -- what stands in a template list and behind it, as kinds
+  -- what is in a template list and after it, as kinds
   join_kinds : (k start end : Kind) (us ks : List Kind) (vs ts : List Token)
       → map without_place vs ≡ start ∷ (us ++ (end ∷ [])) → map without_place ts ≡ ks
       → k ∷ map without_place (vs ++ ts) ≡ k ∷ (start ∷ (us ++ (end ∷ ks)))
@@ -260,7 +260,7 @@ module _ (total : ℕ) where
         let b = from_opening total (Template total) d t w.0 w.1 ts end (opening_class t.class e)
         (step_at total (Template total) d text ts end (token t w.0 w.1) w.2 i) in
         let r = run s Rest (suc d) w.1 b.0 end (within_opening p d depth l) w.3 b.2
-        (no_stop_behind t w.0 w.1 ts b.0 b.1 n).1 in (
+        (no_stop_after t w.0 w.1 ts b.0 b.1 n).1 in (
           ap (λ (r : Role). reach_role r 0 d (λ j m. reach p j m ks)) e ∙ r.0,
           one_more t ks w.0 w.1 ts b.0 _ _ b.1
               (ap (λ (r : Role). ahead_role r 0 d (λ j m. ahead j m ks)) e) r.1,
@@ -277,7 +277,7 @@ module _ (total : ℕ) where
         let g = b.1 in
         let same : b.0 ≡ d = cc in
         let r = run s Rest d w.1 b.2 end (within_closing p d depth deep f l) w.3
-        (subst (λ (x : ℕ). In x w.1 b.2 end) same b.4) (no_stop_behind t w.0 w.1 ts b.2 b.3 n).1 in (
+        (subst (λ (x : ℕ). In x w.1 b.2 end) same b.4) (no_stop_after t w.0 w.1 ts b.2 b.3 n).1 in (
           ap (λ (r : Role). reach_role r 0 (suc d) (λ j m. reach p j m ks)) e ∙ r.0,
           one_more t ks w.0 w.1 ts b.2 _ _ b.3
               (ap (λ (r : Role). ahead_role r 0 (suc d) (λ j m. ahead j m ks)) e) r.1,
@@ -296,7 +296,7 @@ module _ (total : ℕ) where
         (greater_unmarked (role t.class) e) h in
         let b = from_other total (Template total) (suc d) t w.0 w.1 ts end (greater_goes_on d t.class
         (greater_class t.class e)) (step_at total (Template total) (suc d) text ts end (token t w.0 w.1) w.2 i) in
-        let f = no_stop_behind t w.0 w.1 ts b.0 b.1 n in
+        let f = no_stop_after t w.0 w.1 ts b.0 b.1 n in
         let r = run s Rest (suc d) w.1 b.0 end l w.3 (no_list (is_word t.class) (suc d) w.1 b.0 end
         (greater_no_word t.class (greater_class t.class e)) b.2) f.1 in (
           greater_reach (role t.class) e f.0 d (λ j m. reach p j m ks) ∙ r.0,
@@ -314,7 +314,7 @@ module _ (total : ℕ) where
         (step_at total (Template total) (suc d) text ts end (token t w.0 w.1) w.2 i) in
         let r = run s Rest (suc d) w.1 b.0 end l w.3 (no_list (is_word t.class) (suc d) w.1 b.0 end
         (short_circuit_no_word t.class (short_circuit_class t.class e)) b.2)
-        (no_stop_behind t w.0 w.1 ts b.0 b.1 n).1 in (
+        (no_stop_after t w.0 w.1 ts b.0 b.1 n).1 in (
           ap (λ (r : Role). reach_role r 0 (suc d) (λ j m. reach p j m ks)) e ∙ r.0,
           one_more t ks w.0 w.1 ts b.0 _ _ b.1
               (ap (λ (r : Role). ahead_role r 0 (suc d) (λ j m. ahead j m ks)) e) r.1,
@@ -324,7 +324,7 @@ module _ (total : ℕ) where
         let c = plain_class t.class e in
         let b = from_other total (Template total) d t w.0 w.1 ts end (plain_goes_on d t.class c)
         (step_at total (Template total) d text ts end (token t w.0 w.1) w.2 i) in
-        let f = no_stop_behind t w.0 w.1 ts b.0 b.1 n in
+        let f = no_stop_after t w.0 w.1 ts b.0 b.1 n in
         let r = run s Rest d w.1 b.0 end l w.3 (no_list (is_word t.class) d w.1 b.0 end c.0 b.2) f.1 in (
           plain_reach (role t.class) e f.0 d (λ j m. reach p j m ks) ∙ r.0,
           one_more t ks w.0 w.1 ts b.0 _ _ b.1
@@ -334,10 +334,10 @@ module _ (total : ℕ) where
         let w = token_of (role t.class) t (λ x. AlongTo ks (EndOf p Rest) x) text (word_unmarked (role t.class) e) h in
         let b = from_other total (Template total) d t w.0 w.1 ts end (word_goes_on d t.class
         (word_class t.class e)) (step_at total (Template total) d text ts end (token t w.0 w.1) w.2 i) in
-        let f = no_stop_behind t w.0 w.1 ts b.0 b.1 n in
+        let f = no_stop_after t w.0 w.1 ts b.0 b.1 n in
         elim b.2 [
-          | behind_list _ us vs rest q _ _ ↦ absurd (neg s c Rest w.1 w.3 us rest q)
-          | behind_none _ j ↦
+          | after_list _ us vs rest q _ _ ↦ absurd (neg s c Rest w.1 w.3 us rest q)
+          | after_none _ j ↦
               let r = run s Rest d w.1 b.0 end l w.3 j f.1 in (
                 word_reach (role t.class) e f.0 d (λ k m. reach p k m ks) ∙ r.0,
                 one_more t ks w.0 w.1 ts b.0 _ _ b.1
@@ -349,10 +349,10 @@ module _ (total : ℕ) where
         text (word_unmarked (role t.class) e) h in
         let b = from_other total (Template total) d t w.0 w.1 ts end (word_goes_on d t.class
         (word_class t.class e)) (step_at total (Template total) d text ts end (token t w.0 w.1) w.2 i) in
-        let m = no_stop_behind t w.0 w.1 ts b.0 b.1 n in
+        let m = no_stop_after t w.0 w.1 ts b.0 b.1 n in
         let x = found_list first last us ks (EndOf p Rest) w.1 f g a (λ R after q. pos sl R after q) w.3 in
         elim b.2 [
-          | behind_list _ xs vs rest q z j ↦
+          | after_list _ xs vs rest q z j ↦
               let u = template_unique total w.1 xs x.tokens rest x.rest q x.list in
               let r = run s Rest d rest vs end l
               (subst (λ (y : List ℕ). AlongTo ks (EndOf p Rest) y) (sym u.1) x.further) j
@@ -368,10 +368,10 @@ module _ (total : ℕ) where
                     ∙ sym (ap (λ (i : ℕ). take i (t ∷ (first ∷ (us ++ (last ∷ ks))))) count
                     ∙ ap (λ (y : List Kind). t ∷ (first ∷ y)) (take_over us (ahead 0 d ks) last ks)),
               )
-          | behind_none never j ↦ absurd (never (word_class t.class e) x.tokens x.rest x.list)
+          | after_none never j ↦ absurd (never (word_class t.class e) x.tokens x.rest x.list)
         ]
 
-    -- what stands in a template list is found
+    -- what is in a template list is found
     pos : {depth : ℕ} {ks : List Kind} → IsWrittenShape inside depth ks
         → (Rest : List ℕ → Type 0) (text : List ℕ) → AlongTo ks (EndOf inside Rest) text
         → Found depth ks Rest text

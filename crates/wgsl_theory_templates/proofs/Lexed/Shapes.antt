@@ -1,4 +1,4 @@
--- How the tokens of a text stand in template lists and brackets.
+-- How the tokens of a text are in template lists and brackets.
 use Rattle.std.specs.Prelude.{◌≡◌, ℕ, zero, suc, Bool, true, false, List, [], ◌∷◌, ◌++◌, map, take}
 use Rattle.grammar.specs.Tokens.{Token, first_tokens}
 use Rattle.grammar.specs.Grammar.{Mode.checking, Derives}
@@ -12,7 +12,7 @@ use Rattle.wgsl_theory_templates.proofs.Reaching.Reach.{Role, Role.name, Role.ke
 use Rattle.grammar.proofs.Reading.Sets.{clash}
 use Rattle.wgsl_theory_grammar.proofs.Tokens.Decided.{IsList}
 
--- words, behind which a template list may stand
+-- words, after which a template list may be
 abbrev pub is_word_role : Role → Bool
 is_word_role name = true
 is_word_role keyword = true
@@ -35,15 +35,15 @@ abbrev pub deeper : Place → ℕ → ℕ
 deeper outside depth = depth
 deeper inside depth = suc depth
 
--- inside a template list tokens that begin with `>`, `&&` and `||` stand in brackets
+-- inside a template list tokens that begin with `>`, `&&` and `||` are in brackets
 abbrev pub MayStand : Place → ℕ → Type 0
 MayStand outside depth = Unit {0}
 MayStand inside zero = ⊥
 MayStand inside (suc depth) = Unit {0}
 
--- Tokens in which the template lists are told apart, from so many open brackets on, which are all
--- closed at the end. What stands in a template list is one of Lists, and W says what follows a word
--- behind which no template list stands.
+-- Tokens in which the template lists are told apart, from a number of open brackets on, which are
+-- all closed at the end. What is in a template list is one of Lists, and W says what follows a word
+-- after which no template list is.
 pub data Shape {X : Type 0} (class : X → ℕ) (Lists : List X → Type 0)
     (W : Place → List X → Type 0) : Place → ℕ → List X → Type 0 where
   shape_end : {p : Place} → Shape class Lists W p 0 []
@@ -66,7 +66,7 @@ pub data Shape {X : Type 0} (class : X → ℕ) (Lists : List X → Type 0)
       → Shape class Lists W p depth (t ∷ (start ∷ (us ++ (end ∷ ts))))
 
 -- ---- the tokens of a source
--- behind a `<` the tokens up to the one that is reached derive no list(Expression)
+-- after a `<` the tokens up to the one that is reached derive no list(Expression)
 abbrev pub NotReached : Place → List Token → Type 0
 NotReached p [] = Unit {0}
 NotReached p (t ∷ zs) = t.class ≡ SymLessThan → reach p 0 0 (map without_place zs) ≡ true
@@ -78,11 +78,11 @@ abbrev pub IsSourceShape : Place → ℕ → List Token → Type 0
 IsSourceShape p depth ts = Shape (λ (t : Token). t.class) IsList NotReached p depth ts
 
 -- ---- the kinds that a printed text is to have
--- kinds that derive list(Expression), wherever their tokens stand
+-- kinds that derive list(Expression), wherever their tokens are
 abbrev pub DerivesAnywhere : List Kind → Type 0
 DerivesAnywhere ks = (ts : List Token) → map without_place ts ≡ ks → IsList ts
 
--- behind a `<` no token is reached
+-- after a `<` no token is reached
 abbrev pub NeverReached : Place → List Kind → Type 0
 NeverReached p [] = Unit {0}
 NeverReached p (k ∷ js) = k.class ≡ SymLessThan → reach p 0 0 js ≡ false

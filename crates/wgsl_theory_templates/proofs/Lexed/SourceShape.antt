@@ -28,7 +28,7 @@ module _ (total : ℕ) where
   abbrev In : ℕ → List ℕ → List Token → List ℕ → Type 0
   In d text ts end = Inside total (Template total) d text ts end
 
-  -- ---- a `<` behind which no template list stands
+  -- ---- a `<` after which no template list is
   abbrev First : (List ℕ → List Token → Type 0) → List ℕ → List Token → Type 0
   First Rest text ts = (k : Kind) × (from after : List ℕ) × (raw text ≡ token k from after)
       × (k.class ≡ SymLessThan) × Rest after ts
@@ -143,7 +143,7 @@ module _ (total : ℕ) where
   inside_token t ts template_end depth e w m g n s = absurd cc
 
   -- ---- a template list
-  -- what stands inside the template lists at the front of a text has the shape
+  -- what is inside the template lists at the front of a text has the shape
   abbrev Known : List ℕ → Type 0
   Known text = (depth : ℕ) (after : List ℕ) (us : List Token) (end : List ℕ)
       → length after < length text → In depth after us end → IsSourceShape inside depth us
@@ -158,7 +158,7 @@ module _ (total : ℕ) where
       subst (λ (x : List Token). IsSourceShape p depth (t ∷ (start ∷ x))) (sym (append_assoc vs (last ∷ []) ts))
       (shape_template t start last vs ts w refl refl (known 0 after vs end (shorter text from after k r) h) (v, d) src)
 
-  -- ---- what stands inside a template list
+  -- ---- what is inside a template list
   inside_step : (depth : ℕ) (text : List ℕ) (ts : List Token) (end : List ℕ) → Known text
       → In depth text ts end → IsSourceShape inside depth ts
   inside_step depth text ts end known (at_greater s e after k r g) = shape_end

@@ -16,15 +16,15 @@ use Rattle.wgsl_theory_reread.proofs.Again.{D}
 use Rattle.wgsl_theory_templates.proofs.Reaching.Reach.{Place, inside, reach}
 use Rattle.wgsl_theory_templates.proofs.Reaching.Moves.{kinds, stretch}
 use Rattle.wgsl_theory_templates.proofs.Reaching.Closes.{GoesOn, ended}
-use Rattle.wgsl_theory_templates.proofs.Reaching.Behind.{NoListAt, ShiftCloses, shift_closes}
+use Rattle.wgsl_theory_templates.proofs.Reaching.After.{NoListAt, ShiftCloses, shift_closes}
 use Rattle.wgsl_theory_templates.specs.Attempts.{less_signs}
 
 -- the classes of the ends of a template list
 abbrev pub template_ends : List ℕ
 template_ends = TemplateArgsStart ∷ TemplateArgsEnd ∷ []
 
--- The tokens from a list to another behind it: after each `<` and each `<<` no token that begins
--- with `>` is reached, if no list of expressions stands before that token. A template list is
+-- The tokens from a list to another after it: after each `<` and each `<<` no token that begins
+-- with `>` is reached, if no list of expressions is before that token. A template list is
 -- passed over whole, and inside it the same holds of its tokens alone.
 pub data AllClear : Place → List Token → List Token → Type 0 where
   done : (p : Place) (ys : List Token) → AllClear p ys ys
@@ -43,7 +43,7 @@ both_clear {zs = zs} (other_token p t rest ys none less a) b = other_token p t r
 both_clear {zs = zs} (template p start end mid rest ys v h i d c a) b =
     template p start end mid rest zs v h i d c (both_clear a b)
 
--- ---- what has to stand behind what a symbol derives
+-- ---- what has to be after what a symbol derives
 -- any tokens, what goes on with a list of expressions after a shift or after an expression, or what
 -- ends one
 pub data Need : Type 0 where
@@ -90,7 +90,7 @@ enough rest_of_list rest_of_shift e p ys h = shift_closes p ys h
 enough rest_of_shift rest_of_shift e p ys h = h
 enough m n e p ys h = absurd cc
 
--- ---- the tokens that stand between two lists
+-- ---- the tokens that are between two lists
 -- they are clear before every list that meets a need
 pub record Cut (n : Need) (xs ys : List Token) : Type 0 where
   pub tokens : List Token

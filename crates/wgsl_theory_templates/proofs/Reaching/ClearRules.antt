@@ -20,7 +20,7 @@ use Rattle.wgsl_theory_reread.proofs.Derived.{by_derivation}
 use Rattle.wgsl_theory_templates.proofs.Reaching.Reach.{Place, outside, inside, reach}
 use Rattle.wgsl_theory_templates.proofs.Reaching.Moves.{kinds}
 use Rattle.wgsl_theory_templates.proofs.Reaching.Closes.{closes, unary_is_shift, ended, last_comma, comma, comma_moves}
-use Rattle.wgsl_theory_templates.proofs.Reaching.Behind.{compared_closes, operand_is_clear, ending, ended_at, BeginsList, selector_closes}
+use Rattle.wgsl_theory_templates.proofs.Reaching.After.{compared_closes, operand_is_clear, ending, ended_at, BeginsList, selector_closes}
 use Rattle.wgsl_theory_templates.proofs.Reaching.Clear.{template_ends, AllClear, done, other_token, template, Need, any_tokens, rest_of_shift, rest_of_list, end_of_list, Meets, need, is_enough, enough, Cut, wider_cut, none_cut, both_cut, is_plain, token_cut, Cleared, derived, moved}
 
 -- ---- the test
@@ -185,7 +185,7 @@ operator_clears m n e f t v xs ms ys other w operand shift = record {
       (shift zs) p (enough m rest_of_shift f p zs g) none) (operand.clear p zs (enough m n e p zs g));
 }
 
--- a shift: before its operator all tokens may stand
+-- a shift: before its operator all tokens may be
 shift_expression_clears : Clears rest_of_shift (Means checking Cleared (written shift_expression))
 shift_expression_clears v xs ys (inl d) = wider_cut refl d.1
 shift_expression_clears v xs ys (inr (inl d)) =
@@ -200,7 +200,7 @@ shift_expression_clears v xs ys (inr (inl d)) =
 shift_expression_clears v xs ys (inr (inr d)) = clear rest_of_shift
     (two SymShiftRight shift_right (symbol unary_expression)) refl v xs ys d
 
--- a comparison: its first operand stands before the operator and the second one
+-- a comparison: its first operand is before the operator and the second one
 relational_expression_clears : Clears rest_of_list (Means checking Cleared (written relational_expression))
 relational_expression_clears v xs ys (inl d) = wider_cut refl d.1
 relational_expression_clears v xs ys (inr d) =

@@ -18,7 +18,7 @@ use Rattle.wgsl_theory_templates.proofs.Reaching.Reach.{Role, greater, short_cir
 use Rattle.wgsl_theory_templates.proofs.Reaching.Moves.{kinds, stretch, Moves, flat_moves, Passes, both_pass, passed_derives}
 use Rattle.wgsl_theory_templates.proofs.Reaching.Passing.{walked}
 
--- ---- where a token of a role stands first
+-- ---- where a token of a role is first
 -- one that begins with `>` ends the stretch
 at_greater : (c : ℕ) {t : Token} {xs ys : List Token} → role c ≡ greater
     → is_among t.class (c ∷ []) ≡ true → xs ≡ t ∷ ys → stretch 0 0 xs ≡ []
@@ -39,7 +39,7 @@ at_short_circuit c p {t} {xs} {ys} e known w =
 abbrev pub Closed : Symbol → Place → List Token → Type 0
 Closed n p xs = reach p 0 0 (kinds xs) ≡ true → (v : Value n) × Derives checking written n v (stretch 0 0 xs)
 
--- the tokens of a symbol are passed, or such a token or one that rules a template list out stands
+-- the tokens of a symbol are passed, or such a token or one that rules a template list out is
 -- among them
 pub data Way (n : Symbol) (p : Place) (xs ys : List Token) : Type 0 where
   passed : Passes p 0 0 0 0 xs ys → Way n p xs ys
@@ -92,7 +92,7 @@ operator_way p o xs ys (inr (inr (inr (inl d)))) = inr (at_greater SymGreaterTha
 operator_way p o xs ys (inr (inr (inr (inr (inl d))))) = inl (walked p (SymEqualEqual means equality) refl o xs ys d)
 operator_way p o xs ys (inr (inr (inr (inr (inr d))))) = inl (walked p (SymNotEqual means inequality) refl o xs ys d)
 
--- behind the first operand and the operator
+-- after the first operand and the operator
 second_way : (p : Place) (a b : ExpressionNode) (o : BinaryOperator) (xs ms ns ys : List Token)
     → D shift_expression a xs ms → Means checking D relational_operator o ms ns
     → Passes p 0 0 0 0 xs ms → Passes p 0 0 0 0 ms ns → Way shift_expression p ns ys
@@ -120,16 +120,16 @@ relational_way p v xs ys (inl d) = lifted shift_expression relational_expression
 relational_way p v xs ys (inr d) = first_way
     (shift_way p d.0.0 xs d.2.0 (unroll checking written shift_expression d.0.0 xs d.2.0 d.2.1))
   where
-    behind : Passes p 0 0 0 0 xs d.2.0 → Passes p 0 0 0 0 d.2.0 d.2.2.0 ⊎ (stretch 0 0 d.2.0 ≡ [])
+    following : Passes p 0 0 0 0 xs d.2.0 → Passes p 0 0 0 0 d.2.0 d.2.2.0 ⊎ (stretch 0 0 d.2.0 ≡ [])
         → Way relational_expression p xs ys
-    behind a (inl o) =
+    following a (inl o) =
         second_way p d.0.0 d.0.1.1 d.0.1.0 xs d.2.0 d.2.2.0 ys d.2.1 d.2.2.1 a o
         (shift_way p d.0.1.1 d.2.2.0 ys (unroll checking written shift_expression d.0.1.1 d.2.2.0 ys d.2.2.2))
-    behind a (inr e) = closed (λ h. shift_relates d.0.0 (stretch 0 0 xs) (subst (λ (z : List Token).
+    following a (inr e) = closed (λ h. shift_relates d.0.0 (stretch 0 0 xs) (subst (λ (z : List Token).
         D shift_expression d.0.0 (stretch 0 0 xs) z) e (passed_derives (symbol shift_expression) d.0.0 a d.2.1)))
 
     first_way : Way shift_expression p xs d.2.0 → Way relational_expression p xs ys
-    first_way (passed a) = behind a (operator_way p d.0.1.0 d.2.0 d.2.2.0 d.2.2.1)
+    first_way (passed a) = following a (operator_way p d.0.1.0 d.2.0 d.2.2.0 d.2.2.1)
     first_way (closed f) = closed (λ h. let w = f h in shift_relates w.0 (stretch 0 0 xs) w.1)
 
 -- ---- chains of `&&` and `||`
@@ -191,7 +191,7 @@ longer v xs ys zs t d e known w l = roll checking written expressions (v ∷ w) 
     whole w (inr (a, is, (us, c, i))) =
         inr ((v ∷ a.0, a.1), ap (λ (z : List ExpressionNode). v ∷ z) is, (us, go a.0 us c, i))
 
--- an expression is a list, also with a comma behind it
+-- an expression is a list, also with a comma after it
 one_item : (v : ExpressionNode) (xs : List Token) → Derives checking written expression v xs
     → Derives checking written expressions (v ∷ []) xs
 one_item v xs d = roll checking written expressions (v ∷ []) xs [] (inl (base (v ∷ []) [] (v, refl, d)))
@@ -202,7 +202,7 @@ one_item_comma v xs ys t d e known = roll checking written expressions (v ∷ []
     (inr ((v ∷ [], t), refl, (ys, base (v ∷ []) ys (v, refl, d), (known, e))))
 
 -- ---- what goes on with a list
--- what stands behind an expression, if a token that begins with `>` is reached: that token, or a
+-- what is after an expression, if a token that begins with `>` is reached: that token, or a
 -- comma with nothing or a list of expressions before that token
 pub data Following (ys : List Token) : Type 0 where
   ended : stretch 0 0 ys ≡ [] → Following ys
@@ -228,12 +228,12 @@ at_comma {t} {ys} {zs} known e = ap (stretch 0 0) e
 abbrev pub IsList : List Token → Type 0
 IsList xs = (w : List ExpressionNode) × Derives checking written expressions w xs
 
-behind_expression : (v : ExpressionNode) (xs ys : List Token) → D expression v xs (stretch 0 0 ys)
+after_expression : (v : ExpressionNode) (xs ys : List Token) → D expression v xs (stretch 0 0 ys)
     → Following ys → IsList xs
-behind_expression v xs ys d (ended e) = (v ∷ [], one_item v xs (subst (D expression v xs) e d))
-behind_expression v xs ys d (last_comma t zs w known e) =
+after_expression v xs ys d (ended e) = (v ∷ [], one_item v xs (subst (D expression v xs) e d))
+after_expression v xs ys d (last_comma t zs w known e) =
     (v ∷ [], one_item_comma v xs (stretch 0 0 ys) t d (at_comma known w ∙ ap (λ (z : List Token). t ∷ z) e) known)
-behind_expression v xs ys d (comma t zs w known l i) =
+after_expression v xs ys d (comma t zs w known l i) =
     (v ∷ l, longer v xs (stretch 0 0 ys) (stretch 0 0 zs) t d (at_comma known w) known l i)
 
 -- the tokens from an expression to a token that begins with `>` are a list of expressions
@@ -242,6 +242,6 @@ pub closes : (v : ExpressionNode) (xs ys : List Token) → D expression v xs ys 
 closes v xs ys d p g h = by (expression_way p v xs ys (unroll checking written expression v xs ys d))
   where
     by : Way expression p xs ys → IsList (stretch 0 0 xs)
-    by (passed a) = behind_expression v (stretch 0 0 xs) ys
+    by (passed a) = after_expression v (stretch 0 0 xs) ys
         (passed_derives (symbol expression) v a d) (g (sym a.reached ∙ h))
     by (closed f) = let w = f h in (w.0 ∷ [], one_item w.0 (stretch 0 0 xs) w.1)

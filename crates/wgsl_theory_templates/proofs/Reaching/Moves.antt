@@ -16,7 +16,7 @@ use Rattle.wgsl_theory_templates.proofs.Reaching.Reach.{Role, name, greater, ope
 abbrev pub kinds : List Token → List Kind
 kinds = map without_place
 
--- the tokens that stand before the one that is reached
+-- the tokens that are before the one that is reached
 abbrev pub stretch : ℕ → ℕ → List Token → List Token
 stretch k d xs = first_tokens (ahead k d (kinds xs)) xs
 
@@ -32,7 +32,7 @@ is_inner zero zero = false
 is_inner zero (suc d) = true
 is_inner (suc k) d = true
 
--- so many brackets deep within one bracket more: those in a template list are not counted
+-- a number of brackets deep within one bracket more: those in a template list are not counted
 abbrev pub bracketed : ℕ → ℕ → ℕ
 bracketed zero d = suc d
 bracketed (suc k) d = d
@@ -98,7 +98,7 @@ pub role_of : (test : Role → Bool) (c : ℕ) (s : List ℕ) → all_roles test
 role_of test = passes_on (λ c. test (role c))
 
 -- ---- a list of tokens
--- the tokens from a list to the list behind them lead from one nesting to another
+-- the tokens from a list to the list after them lead from one nesting to another
 pub record Passes (p : Place) (k d j e : ℕ) (xs ys : List Token) : Type 0 where
   pub tokens : List Token
   pub whole : xs ≡ tokens ++ ys

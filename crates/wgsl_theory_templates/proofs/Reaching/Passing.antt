@@ -18,7 +18,7 @@ use Rattle.wgsl_theory_templates.proofs.Reaching.Moves.{Moves, is_inner, bracket
 pub data Opened : Type 0 where
   bracket template : Opened
 
--- behind it, from so many template lists and brackets deep
+-- after it, from a number of template lists and brackets deep
 abbrev lists : ℕ → List Opened → ℕ
 lists k [] = k
 lists k (bracket ∷ s) = lists k s
@@ -44,7 +44,7 @@ within_is_inner k d (bracket ∷ s) = sym (bracketed_is_inner (lists k s) (brack
 within_is_inner k d (template ∷ s) = refl
 
 -- ---- the test
--- what is opened behind a token of a role passes
+-- what is opened after a token of a role passes
 abbrev step : Bool → List Opened → (List Opened → Bool) → Role → Bool
 step b s f name = f s
 step b s f other = f s
@@ -68,7 +68,7 @@ binds_loosely n = false
 abbrev passes : Symbol → Bool → Bool
 passes n b = in_expression n && (b || not (binds_loosely n))
 
--- what is opened behind a right side passes
+-- what is opened after a right side passes
 abbrev walks : {A : Type 0} → Bool → List Opened → Rule A → (List Opened → Bool) → Bool
 walks b s (empty a) f = f s
 walks b s (token c) f = all_roles (step b s f) c

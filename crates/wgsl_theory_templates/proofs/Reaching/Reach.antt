@@ -37,8 +37,8 @@ abbrev pub at_end : Place → Bool
 at_end outside = false
 at_end inside = true
 
--- whether, from so many template lists and so many brackets deep, a token that begins with `>`
--- comes before what rules a template list out
+-- whether, from a number of template lists and a number of brackets deep, a token that begins with
+-- `>` comes before what rules a template list out
 abbrev pub reach_role : Role → ℕ → ℕ → (ℕ → ℕ → Bool) → Bool
 reach_role template_start k d next = next (suc k) d
 reach_role template_end (suc k) d next = next k d
@@ -59,7 +59,7 @@ abbrev pub reach : Place → ℕ → ℕ → List Kind → Bool
 reach p k d [] = at_end p
 reach p k d (t ∷ ts) = reach_role (role t.class) k d (λ j e. reach p j e ts)
 
--- how many tokens stand before the one that is reached
+-- how many tokens are before the one that is reached
 abbrev pub ahead_role : Role → ℕ → ℕ → (ℕ → ℕ → ℕ) → ℕ
 ahead_role template_start k d next = suc (next (suc k) d)
 ahead_role template_end (suc k) d next = suc (next k d)

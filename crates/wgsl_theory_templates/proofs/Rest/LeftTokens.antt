@@ -8,7 +8,7 @@ use Rattle.wgsl_model.specs.Tokens.Kind.{Kind, plain}
 use Rattle.wgsl_model.specs.Tokens.Raw.{Raw, none_left, invalid, token, raw}
 use Rattle.wgsl_model.specs.Tokens.Templates.{is_word, NoTemplate, Inside, at_greater, at_opening, at_closing, at_template, at_other, Template}
 use Rattle.wgsl_model.specs.Tokens.TokenList.{TokensOf, at_end, at_fault, before_template, before_more, place, width}
-use Rattle.wgsl_theory_grammar.proofs.Tokens.Cuts.{EndsWith, EndsPast, cut_at, joined, ends_length, shorter, behind_token, behind_first}
+use Rattle.wgsl_theory_grammar.proofs.Tokens.Cuts.{EndsWith, EndsPast, cut_at, joined, ends_length, shorter, after_token, after_first}
 use Rattle.wgsl_theory_grammar.proofs.Tokens.Widths.{within, past, past_first}
 use Rattle.wgsl_theory_grammar.proofs.Tokens.Classes.{opening_word, closing_word}
 use Rattle.wgsl_theory_grammar.proofs.Tokens.Bounds.{inside_leaves, template_leaves}
@@ -151,21 +151,21 @@ at_end_or_before total (end ∷ ends) from = elim (cases (eqb (place total from)
     itself : (n : ℕ) → eqb n n ≡ true
     itself n = grind arith
 
-left_behind : (total : ℕ) (ends : List ℕ) (word : Bool) (text from after : List ℕ) (kind : Kind)
+left_after : (total : ℕ) (ends : List ℕ) (word : Bool) (text from after : List ℕ) (kind : Kind)
     → raw text ≡ token kind from after → IsBeforeEnd total ends from
     → Decided (Begins (Template total) text)
     → ((ends' : List ℕ) (word' : Bool) (rest : List ℕ) → length rest < length text → HasLeft total ends' word' rest)
     → HasLeft total ends word text
-left_behind total ends false text from after kind e b d more =
+left_after total ends false text from after kind e b d more =
     let m = more ends (is_word kind.class) after (shorter text from after kind e) in
     (at total kind from after ∷ m.0, m.1, left_token ends false text from after kind m.0 m.1 e b (λ w. absurd cc) m.2)
-left_behind total ends true text from after kind e b (inr none) more =
+left_after total ends true text from after kind e b (inr none) more =
     let m = more ends (is_word kind.class) after (shorter text from after kind e) in (
       at total kind from after ∷ m.0,
       m.1,
       left_token ends true text from after kind m.0 m.1 e b (λ w us rest q. none (us, rest, q)) m.2,
     )
-left_behind total ends true text from after kind e b (inl (us, rest, q)) more =
+left_after total ends true text from after kind e b (inl (us, rest, q)) more =
     let k = list_front total text from after kind us rest e q in
     let m = more (place total k.1 ∷ ends) false after (shorter text from after kind e) in
     (start_at total from after ∷ m.0, m.1, left_start ends text from after k.1 kind m.0 m.1 e b k.0 k.2 m.2)
@@ -187,7 +187,7 @@ left_from total ends word text (token kind from after) e more = elim (at_end_or_
         subst (λ x. LeftOf total x word text (end_at total from ∷ m.0) m.1) (sym same)
             (left_end outer word text from after kind m.0 m.1 e m.2),
       )
-  | inr b ↦ left_behind total ends word text from after kind e b (template_decided total text) more
+  | inr b ↦ left_after total ends word text from after kind e b (template_decided total text) more
 ]
 
 left_below : (n total : ℕ) (ends : List ℕ) (word : Bool) (text : List ℕ) → length text < n
@@ -200,7 +200,7 @@ pub left_exists : (total : ℕ) (ends : List ℕ) (word : Bool) (text : List ℕ
 left_exists total ends word text = left_below (suc (length text)) total ends word text (omega arith)
 
 -- ---- of a source, its token list
--- behind a word that no list follows, the same is left
+-- after a word that no list follows, the same is left
 unflagged : (total : ℕ) (ends : List ℕ) (word flag : Bool) (text : List ℕ) (ts : List Token) (e : Ending)
     → flag ≡ false → (word ≡ true → NoTemplate (Template total) text)
     → LeftOf total ends flag text ts e → LeftOf total ends word text ts e
@@ -217,7 +217,7 @@ before_end : (total : ℕ) (ends from after end : List ℕ) → width from ≤ t
     → EndsWith after end → IsBeforeEnd total (place total end ∷ ends) from
 before_end total ends from after end fits p w same = omega (arith, past from after p, within after end w, same)
 
--- the tokens of a list and what is left behind it
+-- the tokens of a list and what is left after it
 abbrev Streams : ℕ → ℕ → Type 0
 Streams total k = (text : List ℕ) (ts : List Token) (rest ends : List ℕ) (us : List Token) (e : Ending)
     → length text < k → width text ≤ total → Template total text ts rest
@@ -226,7 +226,7 @@ Streams total k = (text : List ℕ) (ts : List Token) (rest ends : List ℕ) (us
 
 narrower : (total : ℕ) (text from after : List ℕ) (kind : Kind) → raw text ≡ token kind from after
     → width text ≤ total → width after ≤ total
-narrower total text from after kind e fits = omega (arith, within text after (behind_token text from after kind e))
+narrower total text from after kind e fits = omega (arith, within text after (after_token text from after kind e))
 
 -- one token more before the end
 token_more : (total : ℕ) (ends : List ℕ) (text from after end : List ℕ) (kind : Kind) (ts : List Token)
@@ -268,19 +268,19 @@ stream_inside total k H depth text vs end ends us e le fits
     let whole = H after ws rest (place total end ∷ ends) (ts ++ (end_at total end ∷ us)) e (omega (arith, less)) fit q
     (λ kind' from' after' r'. let c = cut_at after from' after' kind' r' in
     before_end total ends from' after' end (omega (arith, fit, within after from' c.0)) c.1
-    (list_behind_first after from' after' kind' ws rest end r' q i)) inner in
+    (list_after_first after from' after' kind' ws rest end r' q i)) inner in
     token_more total ends text from after end kind _ e r fits (joined after rest end b i)
     (subst (λ x. LeftOf total (place total end ∷ ends) x after ((ws ++ ts) ++ (end_at total end ∷ us)) e) (sym w)
     (subst (λ (x : List Token). LeftOf total (place total end ∷ ends) true after x e)
     (sym (append_assoc ws ts (end_at total end ∷ us))) whole))
   where
-    list_behind_first : (text from after : List ℕ) (kind : Kind) (ts : List Token) (rest end : List ℕ)
+    list_after_first : (text from after : List ℕ) (kind : Kind) (ts : List Token) (rest end : List ℕ)
         → raw text ≡ token kind from after → Template total text ts rest → EndsWith rest end
         → EndsWith after end
-    list_behind_first text from after kind ts rest end r q i =
+    list_after_first text from after kind ts rest end r q i =
         let k = list_front total text from after kind ts rest r q in
         let j = inside_leaves total (Template total) (template_leaves total) 0 after k.2.0 k.1 k.2.1 in
-        joined after k.1 end j (joined k.1 (drop 1 k.1) end (behind_first k.1) (subst (λ x. EndsWith x end) k.4 i))
+        joined after k.1 end j (joined k.1 (drop 1 k.1) end (after_first k.1) (subst (λ x. EndsWith x end) k.4 i))
 stream_inside total k H depth text vs end ends us e le fits (at_other d t from after f kind ts r g n h) left =
     token_more total ends text from after end kind _ e r fits
     (inside_leaves total (Template total) (template_leaves total) depth after ts end h)

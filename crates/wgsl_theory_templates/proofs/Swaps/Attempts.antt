@@ -10,12 +10,12 @@ use Rattle.wgsl_model.specs.Tokens.Raw.{Raw, token, raw}
 use Rattle.wgsl_model.specs.Tokens.Templates.{is_word, is_opening, is_closing, begins_with_greater, goes_on, NoTemplate, Inside, at_greater, at_opening, at_closing, at_template, at_other, Enclosed, enclosed, Template}
 use Rattle.wgsl_theory_grammar.proofs.Tokens.Classes.{passes_on, opening_word, closing_word}
 use Rattle.wgsl_theory_grammar.proofs.Tokens.Bounds.{template_is}
-use Rattle.wgsl_theory_grammar.proofs.Tokens.Inside.{at, step_at, Behind, behind_list, behind_none, from_opening, from_closing, from_other, to_other}
+use Rattle.wgsl_theory_grammar.proofs.Tokens.Inside.{at, step_at, After, after_list, after_none, from_opening, from_closing, from_other, to_other}
 use Rattle.wgsl_theory_grammar.proofs.Tokens.Unique.{template_unique, marked}
 use Rattle.wgsl_theory_grammar.proofs.Tokens.Decided.{enclosed_kind}
 use Rattle.wgsl_theory_templates.specs.Attempts.{EndsAt, HasNoEnd, ReadsTo, less_signs}
 use Rattle.wgsl_theory_templates.proofs.Swaps.InsideNested.{no_less}
-use Rattle.wgsl_theory_templates.proofs.Swaps.ReadAlike.{no_list_behind, deeper_goes_on}
+use Rattle.wgsl_theory_templates.proofs.Swaps.ReadAlike.{no_list_after, deeper_goes_on}
 
 -- ---- a list and its `<`
 -- the list at the front of a text whose first token is known
@@ -60,20 +60,20 @@ none_left_begins total text r e n ts rest h =
     n k.3 k.0 k.1 (sym e ∙ k.5)
 
 -- ---- what was read
-no_word_behind : (total : ℕ) (word : Bool) (depth : ℕ) (text : List ℕ) (ts : List Token) (end : List ℕ)
+no_word_after : (total : ℕ) (word : Bool) (depth : ℕ) (text : List ℕ) (ts : List Token) (end : List ℕ)
     → (word ≡ true → ⊥) → Inside total (Template total) depth text ts end
-    → Behind total (Template total) word depth text ts end
-no_word_behind total word depth text ts end n h = behind_none (λ w. absurd (n w)) h
+    → After total (Template total) word depth text ts end
+no_word_after total word depth text ts end n h = after_none (λ w. absurd (n w)) h
 
 -- at the start
 pub starts : (total : ℕ) (text : List ℕ) → ReadsTo total text [] false 0 text
 starts total text = record {
-  forth = λ d ts end h. let e : d + 0 ≡ d = omega arith in no_list_behind total (Template total) false d text ts end
-      (λ w. absurd cc) (subst (λ (x : ℕ). Behind total (Template total) false x text ts end) e h);
+  forth = λ d ts end h. let e : d + 0 ≡ d = omega arith in no_list_after total (Template total) false d text ts end
+      (λ w. absurd cc) (subst (λ (x : ℕ). After total (Template total) false x text ts end) e h);
   back = λ d ts end h. let e : d ≡ d + 0 = omega arith in (
     ts,
     refl,
-    no_word_behind total false (d + 0) text ts end (λ w. cc)
+    no_word_after total false (d + 0) text ts end (λ w. cc)
         (subst (λ (x : ℕ). Inside total (Template total) x text ts end) e h),
   );
 }
@@ -83,18 +83,18 @@ pub forget_word : (total : ℕ) (text : List ℕ) (seen : List Token) (word : Bo
     → ReadsTo total text seen word depth rest → (word ≡ true → NoTemplate (Template total) rest)
     → ReadsTo total text seen false depth rest
 forget_word total text seen word depth rest r n = record {
-  forth = λ d ts end h. r.forth d ts end (behind_none n
-      (no_list_behind total (Template total) false (d + depth) rest ts end (λ w. absurd cc) h));
+  forth = λ d ts end h. r.forth d ts end (after_none n
+      (no_list_after total (Template total) false (d + depth) rest ts end (λ w. absurd cc) h));
   back = λ d ts end h.
       let k = r.back d ts end h in (
         k.0,
         k.1,
-        no_word_behind total false (d + depth) rest k.0 end (λ w. cc)
-            (no_list_behind total (Template total) word (d + depth) rest k.0 end n k.2),
+        no_word_after total false (d + depth) rest k.0 end (λ w. cc)
+            (no_list_after total (Template total) word (d + depth) rest k.0 end n k.2),
       );
 }
 
--- nor at which of two texts with the same first token one stands
+-- nor at which of two texts with the same first token one is
 inside_alike : (total depth : ℕ) (text other : List ℕ) (ts : List Token) (end : List ℕ)
     → raw other ≡ raw text → Inside total (Template total) depth text ts end
     → Inside total (Template total) depth other ts end
@@ -114,95 +114,95 @@ pub reads_alike : (total : ℕ) (text : List ℕ) (seen : List Token) (depth : �
 reads_alike total text seen depth rest other e r = record {
   forth = λ d ts end h.
       let i = inside_alike total (d + depth) other rest ts end e
-      (no_list_behind total (Template total) false (d + depth) other ts end (λ w. absurd cc) h) in
-      r.forth d ts end (no_word_behind total false (d + depth) rest ts end (λ w. cc) i);
+      (no_list_after total (Template total) false (d + depth) other ts end (λ w. absurd cc) h) in
+      r.forth d ts end (no_word_after total false (d + depth) rest ts end (λ w. cc) i);
   back = λ d ts end h.
       let k = r.back d ts end h in
       let i = inside_alike total (d + depth) rest other k.0 end (sym e)
-      (no_list_behind total (Template total) false (d + depth) rest k.0 end (λ w. absurd cc) k.2) in
-      (k.0, k.1, no_word_behind total false (d + depth) other k.0 end (λ w. cc) i);
+      (no_list_after total (Template total) false (d + depth) rest k.0 end (λ w. absurd cc) k.2) in
+      (k.0, k.1, no_word_after total false (d + depth) other k.0 end (λ w. cc) i);
 }
 
--- a token that is taken with so many brackets open, and so many are behind it
+-- a token that is taken with a number of brackets open, and a number of are after it
 abbrev pub IsTaken : ℕ → ℕ → ℕ → Type 0
-IsTaken depth class behind = ((is_opening class ≡ true) × (behind ≡ suc depth))
-    ⊎ (((is_closing class ≡ true) × (depth ≡ suc behind)) ⊎ ((goes_on depth class ≡ true) × (behind ≡ depth)))
+IsTaken depth class following = ((is_opening class ≡ true) × (following ≡ suc depth))
+    ⊎ (((is_closing class ≡ true) × (depth ≡ suc following)) ⊎ ((goes_on depth class ≡ true) × (following ≡ depth)))
 
-deeper_taken : (d depth class behind : ℕ) → IsTaken depth class behind → IsTaken (d + depth) class (d + behind)
-deeper_taken d depth class behind (inl (o, e)) = inl (o, omega (arith, e))
-deeper_taken d depth class behind (inr (inl (l, e))) = inr (inl (l, omega (arith, e)))
-deeper_taken d depth class behind (inr (inr (g, e))) =
+deeper_taken : (d depth class following : ℕ) → IsTaken depth class following → IsTaken (d + depth) class (d + following)
+deeper_taken d depth class following (inl (o, e)) = inl (o, omega (arith, e))
+deeper_taken d depth class following (inr (inl (l, e))) = inr (inl (l, omega (arith, e)))
+deeper_taken d depth class following (inr (inr (g, e))) =
     inr (inr (deeper_goes_on depth (d + depth) class (omega arith) g, omega (arith, e)))
 
-takes_forth : (total depth behind : ℕ) (text from after : List ℕ) (kind : Kind) (ts : List Token) (end : List ℕ)
-    → raw text ≡ token kind from after → IsTaken depth kind.class behind
-    → Behind total (Template total) (is_word kind.class) behind after ts end
+takes_forth : (total depth following : ℕ) (text from after : List ℕ) (kind : Kind) (ts : List Token) (end : List ℕ)
+    → raw text ≡ token kind from after → IsTaken depth kind.class following
+    → After total (Template total) (is_word kind.class) following after ts end
     → Inside total (Template total) depth text (at total kind from after ∷ ts) end
-takes_forth total depth behind text from after kind ts end e (inl (o, d)) h =
-    let i = no_list_behind total (Template total) (is_word kind.class) behind after ts end
+takes_forth total depth following text from after kind ts end e (inl (o, d)) h =
+    let i = no_list_after total (Template total) (is_word kind.class) following after ts end
     (λ w. absurd (opening_word kind.class o w)) h in
     at_opening depth text from after end kind ts e o
     (subst (λ (x : ℕ). Inside total (Template total) x after ts end) d i)
-takes_forth total depth behind text from after kind ts end e (inr (inl (l, d))) h =
-    let i = no_list_behind total (Template total) (is_word kind.class) behind after ts end
+takes_forth total depth following text from after kind ts end e (inr (inl (l, d))) h =
+    let i = no_list_after total (Template total) (is_word kind.class) following after ts end
     (λ w. absurd (closing_word kind.class l w)) h in
     subst (λ (x : ℕ). Inside total (Template total) x text (at total kind from after ∷ ts) end)
-    (sym d) (at_closing behind text from after end kind ts e l i)
-takes_forth total depth behind text from after kind ts end e (inr (inr (g, d))) h =
+    (sym d) (at_closing following text from after end kind ts e l i)
+takes_forth total depth following text from after kind ts end e (inr (inr (g, d))) h =
     to_other total (Template total) depth text from after kind ts end e g
-    (subst (λ (x : ℕ). Behind total (Template total) (is_word kind.class) x after ts end) d h)
+    (subst (λ (x : ℕ). After total (Template total) (is_word kind.class) x after ts end) d h)
 
-takes_back : (total depth behind : ℕ) (text from after : List ℕ) (kind : Kind) (ts : List Token) (end : List ℕ)
-    → raw text ≡ token kind from after → IsTaken depth kind.class behind
+takes_back : (total depth following : ℕ) (text from after : List ℕ) (kind : Kind) (ts : List Token) (end : List ℕ)
+    → raw text ≡ token kind from after → IsTaken depth kind.class following
     → Inside total (Template total) depth text ts end
     → (us : List Token) × (ts ≡ at total kind from after ∷ us)
-    × Behind total (Template total) (is_word kind.class) behind after us end
-takes_back total depth behind text from after kind ts end e (inl (o, d)) h =
+    × After total (Template total) (is_word kind.class) following after us end
+takes_back total depth following text from after kind ts end e (inl (o, d)) h =
     let k = from_opening total (Template total) depth kind from after ts end o
     (step_at total (Template total) depth text ts end (token kind from after) e h) in (
       k.0,
       k.1,
-      no_word_behind total (is_word kind.class) behind after k.0 end (λ w. opening_word kind.class o w)
+      no_word_after total (is_word kind.class) following after k.0 end (λ w. opening_word kind.class o w)
           (subst (λ (x : ℕ). Inside total (Template total) x after k.0 end) (sym d) k.2),
     )
-takes_back total depth behind text from after kind ts end e (inr (inl (l, d))) h =
+takes_back total depth following text from after kind ts end e (inr (inl (l, d))) h =
     let k = from_closing total (Template total) depth kind from after ts end l
     (step_at total (Template total) depth text ts end (token kind from after) e h) in
-    let up = sym k.1 ∙ d in let same : k.0 ≡ behind = cc in (
+    let up = sym k.1 ∙ d in let same : k.0 ≡ following = cc in (
       k.2,
       k.3,
-      no_word_behind total (is_word kind.class) behind after k.2 end (λ w. closing_word kind.class l w)
+      no_word_after total (is_word kind.class) following after k.2 end (λ w. closing_word kind.class l w)
           (subst (λ (x : ℕ). Inside total (Template total) x after k.2 end) same k.4),
     )
-takes_back total depth behind text from after kind ts end e (inr (inr (g, d))) h =
+takes_back total depth following text from after kind ts end e (inr (inr (g, d))) h =
     let k = from_other total (Template total) depth kind from after ts end g
     (step_at total (Template total) depth text ts end (token kind from after) e h) in
-    (k.0, k.1, subst (λ (x : ℕ). Behind total (Template total) (is_word kind.class) x after k.0 end) (sym d) k.2)
+    (k.0, k.1, subst (λ (x : ℕ). After total (Template total) (is_word kind.class) x after k.0 end) (sym d) k.2)
 
--- one token is taken, which begins no list behind a word
-pub takes : (total : ℕ) (text : List ℕ) (seen : List Token) (word : Bool) (depth behind : ℕ)
+-- one token is taken, which begins no list after a word
+pub takes : (total : ℕ) (text : List ℕ) (seen : List Token) (word : Bool) (depth following : ℕ)
     (rest from after : List ℕ) (kind : Kind) → ReadsTo total text seen word depth rest
     → raw rest ≡ token kind from after
-    → (word ≡ true → kind.class ≡ SymLessThan → HasNoEnd total after) → IsTaken depth kind.class behind
-    → ReadsTo total text (seen ++ at total kind from after ∷ []) (is_word kind.class) behind after
-takes total text seen word depth behind rest from after kind r e n t =
+    → (word ≡ true → kind.class ≡ SymLessThan → HasNoEnd total after) → IsTaken depth kind.class following
+    → ReadsTo total text (seen ++ at total kind from after ∷ []) (is_word kind.class) following after
+takes total text seen word depth following rest from after kind r e n t =
     let none : word ≡ true → NoTemplate (Template total) rest = λ w. none_begins total rest from after kind e (n w) in
     let token_at : Token = at total kind from after in
     record {
       forth = λ d ts end h.
           subst (λ (x : List Token). Inside total (Template total) d text x end)
           (sym (append_assoc seen (token_at ∷ []) ts))
-          (r.forth d (token_at ∷ ts) end (behind_none none (takes_forth total (d + depth)
-          (d + behind) rest from after kind ts end e (deeper_taken d depth kind.class behind t) h)));
+          (r.forth d (token_at ∷ ts) end (after_none none (takes_forth total (d + depth)
+          (d + following) rest from after kind ts end e (deeper_taken d depth kind.class following t) h)));
       back = λ d ts end h.
           let k = r.back d ts end h in
-          let m = takes_back total (d + depth) (d + behind) rest from after kind k.0 end e
-          (deeper_taken d depth kind.class behind t)
-          (no_list_behind total (Template total) word (d + depth) rest k.0 end none k.2) in
+          let m = takes_back total (d + depth) (d + following) rest from after kind k.0 end e
+          (deeper_taken d depth kind.class following t)
+          (no_list_after total (Template total) word (d + depth) rest k.0 end none k.2) in
           (m.0, k.1 ∙ ap (λ (x : List Token). seen ++ x) m.1 ∙ sym (append_assoc seen (token_at ∷ []) m.0), m.2);
     }
 
--- behind a word, a list is taken whole
+-- after a word, a list is taken whole
 pub takes_list : (total : ℕ) (text : List ℕ) (seen : List Token) (word : Bool) (depth : ℕ)
     (rest from after end : List ℕ) (kind : Kind) → ReadsTo total text seen word depth rest
     → raw rest ≡ token kind from after
@@ -214,7 +214,7 @@ takes_list total text seen word depth rest from after end kind r e w c k =
     record {
       forth = λ d ts f h.
           subst (λ (x : List Token). Inside total (Template total) d text x f) (sym (append_assoc seen ms ts))
-          (r.forth d (ms ++ ts) f (behind_list w ms ts (drop 1 end) q refl (no_list_behind total
+          (r.forth d (ms ++ ts) f (after_list w ms ts (drop 1 end) q refl (no_list_after total
           (Template total) false (d + depth) (drop 1 end) ts f (λ x. absurd cc) h)));
       back = λ d ts f h.
           let m = r.back d ts f h in
@@ -223,16 +223,16 @@ takes_list total text seen word depth rest from after end kind r e w c k =
     }
   where
     again : (d : ℕ) (ms : List Token) → Template total rest ms (drop 1 end)
-        → (ts : List Token) (f : List ℕ) → Behind total (Template total) word d rest ts f
-        → (vs : List Token) × (ts ≡ ms ++ vs) × Behind total (Template total) false d (drop 1 end) vs f
-    again d ms q ts f (behind_list w' us' vs rest' q' s h) =
+        → (ts : List Token) (f : List ℕ) → After total (Template total) word d rest ts f
+        → (vs : List Token) × (ts ≡ ms ++ vs) × After total (Template total) false d (drop 1 end) vs f
+    again d ms q ts f (after_list w' us' vs rest' q' s h) =
         let same = template_unique total rest ms us' (drop 1 end) rest' q q' in (
           vs,
           s ∙ ap (λ (x : List Token). x ++ vs) (sym same.0),
-          behind_none (λ x. absurd cc)
+          after_none (λ x. absurd cc)
               (subst (λ (x : List ℕ). Inside total (Template total) d x vs f) (sym same.1) h),
         )
-    again d ms q ts f (behind_none n h) = absurd (n w ms (drop 1 end) q)
+    again d ms q ts f (after_none n h) = absurd (n w ms (drop 1 end) q)
 
 -- an operator that ends with a `<` is taken, and is no word
 pub sign_taken : (depth c : ℕ) → is_among c less_signs ≡ true → (goes_on depth c ≡ true) × (is_word c ≡ false)
@@ -250,16 +250,16 @@ goes_further total text seen more word depth deep place rest r s = record {
   forth = λ d ts end h.
       let e : d + (depth + deep) ≡ (d + depth) + deep = omega arith in
       subst (λ (x : List Token). Inside total (Template total) d text x end) (sym (append_assoc seen more ts))
-      (r.forth d (more ++ ts) end (no_word_behind total false (d + depth) place (more ++ ts) end (λ w. cc)
-      (s.forth (d + depth) ts end (subst (λ (x : ℕ). Behind total (Template total) word x rest ts end) e h))));
+      (r.forth d (more ++ ts) end (no_word_after total false (d + depth) place (more ++ ts) end (λ w. cc)
+      (s.forth (d + depth) ts end (subst (λ (x : ℕ). After total (Template total) word x rest ts end) e h))));
   back = λ d ts end h.
       let e : (d + depth) + deep ≡ d + (depth + deep) = omega arith in
       let k = r.back d ts end h in
       let m = s.back (d + depth) k.0 end
-      (no_list_behind total (Template total) false (d + depth) place k.0 end (λ w. absurd cc) k.2) in (
+      (no_list_after total (Template total) false (d + depth) place k.0 end (λ w. absurd cc) k.2) in (
         m.0,
         k.1 ∙ ap (λ (x : List Token). seen ++ x) m.1 ∙ sym (append_assoc seen more m.0),
-        subst (λ (x : ℕ). Behind total (Template total) word x rest m.0 end) e m.2,
+        subst (λ (x : ℕ). After total (Template total) word x rest m.0 end) e m.2,
       );
 }
 
@@ -289,5 +289,5 @@ pub ends : (total : ℕ) (text : List ℕ) (seen : List Token) (word : Bool) (re
     → Inside total (Template total) 0 text seen from
 ends total text seen word rest from after kind r e g =
     subst (λ (x : List Token). Inside total (Template total) 0 text x from) (append-nil seen)
-    (r.forth 0 [] from (behind_none (λ w. none_begins total rest from after kind e (λ l.
+    (r.forth 0 [] from (after_none (λ w. none_begins total rest from after kind e (λ l.
     absurd (no_less begins_with_greater kind.class g refl l))) (at_greater rest from after kind e g)))

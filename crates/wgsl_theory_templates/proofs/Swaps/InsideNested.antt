@@ -14,12 +14,12 @@ use Rattle.wgsl_theory_grammar.proofs.Faults.PlainFaults.{one_class}
 use Rattle.wgsl_theory_templates.proofs.Reaching.Reach.{Role, Role.template_end, role, Place, inside, reach}
 use Rattle.wgsl_theory_templates.proofs.Reaching.Moves.{kinds}
 use Rattle.wgsl_theory_templates.specs.Attempts.{less_signs}
-use Rattle.wgsl_theory_templates.proofs.Reaching.Behind.{NoListAt}
+use Rattle.wgsl_theory_templates.proofs.Reaching.After.{NoListAt}
 use Rattle.wgsl_theory_templates.proofs.Reaching.Clear.{AllClear, done, other_token, template}
 use Rattle.wgsl_theory_templates.proofs.Lexed.RawClasses.{raw_unmarked}
-use Rattle.wgsl_theory_templates.proofs.Changes.Nested.{nested_role, Nested, within, both_levels, nested_behind, same_head, unmarked_nested, clear_nested}
+use Rattle.wgsl_theory_templates.proofs.Changes.Nested.{nested_role, Nested, within, both_levels, nested_after, same_head, unmarked_nested, clear_nested}
 
--- ---- what stands inside a template list
+-- ---- what is inside a template list
 -- the template lists of a relation are ended, and so are those within them
 abbrev AllNested : TemplateRelation → Type 0
 AllNested R = (text : List ℕ) (ts : List Token) (rest : List ℕ) → R text ts rest → Nested 0 (kinds ts)
@@ -39,13 +39,13 @@ inside_nested total R c depth text ts end (at_closing d t from after e k us r g 
     one_nested text from after k (kinds us) r (inside_nested total R c d after us end h)
 inside_nested total R c depth text ts end (at_template d t from after rest e k us vs r w q h) =
     one_nested text from after k (kinds (us ++ vs)) r
-    (nested_behind 0 0 us vs (c after us rest q) (inside_nested total R c depth rest vs end h))
+    (nested_after 0 0 us vs (c after us rest q) (inside_nested total R c depth rest vs end h))
 inside_nested total R c depth text ts end (at_other d t from after e k us r g n h) =
     one_nested text from after k (kinds us) r (inside_nested total R c depth after us end h)
 
 enclosed_nested : (total : ℕ) (R : TemplateRelation) → AllNested R → AllNested (Enclosed total R)
 enclosed_nested total R c text ts rest (enclosed t from after end k us v r s h d) =
-    nested_behind 0 1 us _ (inside_nested total R c 0 after us end h) refl
+    nested_after 0 1 us _ (inside_nested total R c 0 after us end h) refl
 
 up_to_nested : (n total : ℕ) → AllNested (TemplateUpTo n total)
 up_to_nested zero total text ts rest h = absurd h
@@ -57,20 +57,20 @@ pub all_nested : (total depth : ℕ) (text : List ℕ) (ts : List Token) (end : 
 all_nested total depth text ts end h = inside_nested total (Template total)
     (λ s us rest q. up_to_nested (length s) total s us rest q) depth text ts end h
 
--- ---- so many template lists deep
+-- ---- a number of template lists deep
 -- tokens that end each list are so from one number of lists alone
 same_level : (ts : List Kind) (j i : ℕ) → Nested j ts → Nested i ts → j ≡ i
 same_level [] j i h g = h ∙ sym g
 same_level (t ∷ ts) j i h g = both_levels (j ≡ i) (role t.class) j i (λ n. Nested n ts)
     (λ n. Nested n ts) (λ a b f g on from. from (same_level ts a b f g)) h g
 
--- behind some of the tokens
-level_behind : (us ts : List Token) (k : ℕ) → Nested k (kinds (us ++ ts)) → (j : ℕ) × Nested j (kinds ts)
-level_behind [] ts k h = (k, h)
-level_behind (u ∷ us) ts k h =
-    let Behind : ℕ → Type 0 = λ j. Nested j (kinds (us ++ ts)) in
-    both_levels ((j : ℕ) × Nested j (kinds ts)) (role u.class) k k Behind Behind
-    (λ j n g g' on from. level_behind us ts j g) h h
+-- after some of the tokens
+level_after : (us ts : List Token) (k : ℕ) → Nested k (kinds (us ++ ts)) → (j : ℕ) × Nested j (kinds ts)
+level_after [] ts k h = (k, h)
+level_after (u ∷ us) ts k h =
+    let After : ℕ → Type 0 = λ j. Nested j (kinds (us ++ ts)) in
+    both_levels ((j : ℕ) × Nested j (kinds ts)) (role u.class) k k After After
+    (λ j n g g' on from. level_after us ts j g) h h
 
 one_more_within : (j : ℕ) → within j 1 ≡ 0 → ⊥
 one_more_within zero e = cc
@@ -80,18 +80,18 @@ one_more_within (suc j) e = cc
 no_end_between : (us vs rest : List Token) (l end : Token) → Nested 0 (kinds (us ++ (l ∷ vs)))
     → role end.class ≡ template_end → Nested 0 (kinds rest) → Nested 0 (kinds (vs ++ (end ∷ rest))) → ⊥
 no_end_between us vs rest l end h e n g =
-    let k = level_behind (us ++ (l ∷ [])) vs 0 (subst (λ (z : List Token). Nested 0 (kinds z)) (split us) h) in
+    let k = level_after (us ++ (l ∷ [])) vs 0 (subst (λ (z : List Token). Nested 0 (kinds z)) (split us) h) in
     let last : Nested 1 (kinds (end ∷ rest)) =
     subst (λ (r : Role). nested_role r 1 (λ j. Nested j (kinds rest))) (sym e) n in
     one_more_within k.0
-    (same_level (kinds (vs ++ (end ∷ rest))) (within k.0 1) 0 (nested_behind k.0 1 vs (end ∷ rest) k.1 last) g)
+    (same_level (kinds (vs ++ (end ∷ rest))) (within k.0 1) 0 (nested_after k.0 1 vs (end ∷ rest) k.1 last) g)
   where
     split : (us : List Token) → us ++ (l ∷ vs) ≡ (us ++ (l ∷ [])) ++ vs
     split [] = refl
     split (u ∷ us) = ap (λ (z : List Token). u ∷ z) (split us)
 
 -- ---- tokens that are clear
--- where a token stands in a list that is made of two: in the first, or in the second
+-- where a token is in a list that is made of two: in the first, or in the second
 data Where (ms ns xs : List Token) (l : Token) (ys : List Token) : Type 0 where
   in_first : (vs : List Token) → ms ≡ xs ++ (l ∷ vs) → ys ≡ vs ++ ns → Where ms ns xs l ys
   in_second : (us : List Token) → xs ≡ ms ++ us → ns ≡ us ++ (l ∷ ys) → Where ms ns xs l ys
@@ -109,8 +109,8 @@ stands (a ∷ ms) ns (x ∷ xs) l ys e = one_further a x ms ns xs l ys
     (same_head a x (ms ++ ns) (xs ++ (l ∷ ys)) e)
     (stands ms ns xs l ys (tail_of a x (ms ++ ns) (xs ++ (l ∷ ys)) e))
 
-abbrev pub NotReachedBehind : Place → List Token → Type 0
-NotReachedBehind p ys = NoListAt p ys → reach p 0 0 (kinds ys) ≡ false
+abbrev pub NotReachedAfter : Place → List Token → Type 0
+NotReachedAfter p ys = NoListAt p ys → reach p 0 0 (kinds ys) ≡ false
 
 -- a `<` passes no test that no `<` passes
 pub no_less : (test : ℕ → Bool) (c : ℕ) → test c ≡ true → test SymLessThan ≡ false → c ≡ SymLessThan → ⊥
@@ -125,7 +125,7 @@ no_sign : (s : List ℕ) (t l : Token) → disjoint s less_signs ≡ true → is
     → is_among l.class less_signs ≡ true → t ≡ l → ⊥
 no_sign s t l d m c e = clash _ (ap (λ (x : Token). is_among x.class less_signs) e ∙ c) (apart t.class s less_signs d m)
 
--- a `<` behind the start of a template list stands behind its end
+-- a `<` after the start of a template list is after its end
 by_place : (p : Place) (mid rest us ys : List Token) (l end : Token)
     → is_among end.class (TemplateArgsEnd ∷ []) ≡ true → is_among l.class less_signs ≡ true
     → Nested 0 (kinds mid) → Nested 0 (kinds rest) → Nested 0 (kinds ys)
@@ -139,10 +139,10 @@ by_place p mid rest us ys l end i c m r n again (in_second [] f g) =
 by_place p mid rest us ys l end i c m r n again (in_second (b ∷ bs) f g) = again bs
     (tail_of end b rest (bs ++ (l ∷ ys)) g)
 
--- behind a `<` in them, where each list that begins behind it is ended and no other
+-- after a `<` in them, where each list that begins after it is ended and no other
 pub clear_at : (p : Place) (xs zs : List Token) → AllClear p xs zs → zs ≡ []
     → (us : List Token) (l : Token) (ys : List Token) → xs ≡ us ++ (l ∷ ys)
-    → is_among l.class less_signs ≡ true → Nested 0 (kinds ys) → NotReachedBehind p ys
+    → is_among l.class less_signs ≡ true → Nested 0 (kinds ys) → NotReachedAfter p ys
 clear_at _ _ _ (done p zs) e us l ys w c n none_at = absurd (no_token us l ys (sym e ∙ w))
 clear_at _ _ _ (other_token p t rest zs none less a) e [] l ys w c n none_at =
     let head = same_head t l rest ys w in

@@ -1,4 +1,4 @@
--- What would stand inside a list that begins at a `<` is read alike from there by each list around
+-- What would be inside a list that begins at a `<` is read alike from there by each list around
 -- it: where it is no list of expressions, none around it is.
 use Rattle.std.proofs.Common.{◌≡◌, ℕ, zero, suc, ◌+◌, ◌≤◌, Bool, true, false, List, [], ◌∷◌, ◌++◌, length, inl, inr, refl, sym, ap, subst, ◌∙◌, arith}
 use Rattle.std.proofs.lemmas.List.{map-append, length-map}
@@ -11,7 +11,7 @@ use Rattle.wgsl_model.specs.Grammar.Symbols.{Symbol.expressions}
 use Rattle.wgsl_model.specs.Grammar.Written.{written}
 use Rattle.wgsl_model.specs.Tokens.Templates.{is_word, begins_with_greater, goes_on, TemplateRelation, NoTemplate, Inside, at_greater, at_opening, at_closing, at_template, at_other, Template}
 use Rattle.wgsl_theory_grammar.proofs.Tokens.Classes.{opening_greater, closing_greater, greater_short_circuit, greater_word, word_goes_on, no_bracket, no_end, goes_on_deeper}
-use Rattle.wgsl_theory_grammar.proofs.Tokens.Inside.{at, Step, greater_step, opening_step, closing_step, template_step, other_step, Behind, behind_list, behind_none, step_at, from_opening, from_closing, from_other}
+use Rattle.wgsl_theory_grammar.proofs.Tokens.Inside.{at, Step, greater_step, opening_step, closing_step, template_step, other_step, After, after_list, after_none, step_at, from_opening, from_closing, from_other}
 use Rattle.wgsl_theory_grammar.proofs.Tokens.Unique.{IsUnique, template_unique}
 use Rattle.wgsl_theory_grammar.proofs.Tokens.Decided.{IsList, list_decided}
 use Rattle.wgsl_theory_reread.specs.CanonicalUnits.{without_place}
@@ -28,7 +28,7 @@ use Rattle.wgsl_theory_templates.specs.Attempts.{less_signs}
 use Rattle.wgsl_theory_templates.proofs.Swaps.InsideNested.{all_nested, clear_at}
 
 -- ---- tokens and their roles
--- some tokens stand before the one that is reached from so many brackets deep
+-- some tokens are before the one that is reached from a number of brackets deep
 abbrev Found : ℕ → List Token → List Token → Type 0
 Found j ts us = (reach inside 0 j (kinds ts) ≡ true) × (stretch 0 j ts ≡ us)
 
@@ -57,7 +57,7 @@ greater_found other c t ts s m g = clash _ g s.3
 greater_found template_start c t ts s m g = absurd cc
 greater_found template_end c t ts s m g = absurd cc
 
--- what a list goes on behind leaves the nesting as it is
+-- what a list goes on after leaves the nesting as it is
 other_moves : (r : Role) (c j : ℕ) → Says c r → is_mark_role r ≡ false → is_stop_role r ≡ false
     → goes_on j c ≡ true → Moves r 0 j 0 j
 other_moves name c j s m n g = flat_moves name 0 j refl
@@ -80,12 +80,12 @@ deeper_goes_on zero zero c le g = g
 deeper_goes_on (suc j) zero c le g = absurd (omega arith)
 deeper_goes_on j (suc d) c le g = let n = no_bracket j c g in goes_on_deeper d c n.0 n.1
 
-no_stop_behind : (us ts : List Token) → NoStop (kinds (us ++ ts)) → NoStop (kinds ts)
-no_stop_behind [] ts n = n
-no_stop_behind (u ∷ us) ts n = no_stop_behind us ts n.1
+no_stop_after : (us ts : List Token) → NoStop (kinds (us ++ ts)) → NoStop (kinds ts)
+no_stop_after [] ts n = n
+no_stop_after (u ∷ us) ts n = no_stop_after us ts n.1
 
 -- ---- what is read from a `<` on
--- by a list that would begin there, and by one around it, within whose brackets the `<` may stand
+-- by a list that would begin there, and by one around it, within whose brackets the `<` may be
 abbrev Alike : (total : ℕ) → TemplateRelation → ℕ → List ℕ → List Token → Type 0
 Alike total R j text us = (d : ℕ) → j ≤ d → (ts : List Token) (end : List ℕ)
     → Inside total R d text ts end → NoStop (kinds ts) → Found j ts us
@@ -124,29 +124,29 @@ list_found : (total : ℕ) (R : TemplateRelation) → IsUnique R → AllClosed R
     → is_word k.class ≡ true → is_stop_role (role k.class) ≡ false
     → R after us rest
     → ((ws : List Token) → Inside total R d rest ws end → NoStop (kinds ws) → Found j ws vs)
-    → NoStop (kinds ts) → Behind total R (is_word k.class) d after ts end
+    → NoStop (kinds ts) → After total R (is_word k.class) d after ts end
     → Found j (at total k from after ∷ ts) (at total k from after ∷ (us ++ vs))
-list_found total R u c j d k from after rest us vs ts end w m q again n (behind_list w' us' ws rest' q' e h) =
+list_found total R u c j d k from after rest us vs ts end w m q again n (after_list w' us' ws rest' q' e h) =
     let same = u after us' us rest' rest q' q in
     let all : ts ≡ us ++ ws = e ∙ ap (λ (x : List Token). x ++ ws) same.0 in
     let f = again ws (subst (λ (x : List ℕ). Inside total R d x ws end) same.1 h)
-    (no_stop_behind us ws (subst (λ (x : List Token). NoStop (kinds x)) all n)) in
+    (no_stop_after us ws (subst (λ (x : List Token). NoStop (kinds x)) all n)) in
     one_more (at total k from after) j j ts (us ++ vs) (word_moves (role k.class) j (word_role k.class w) m)
     (subst (λ (x : List Token). Found j x (us ++ vs)) (sym all) (over_list j us ws vs (c after us rest q) f))
-list_found total R u c j d k from after rest us vs ts end w m q again n (behind_none b h) = absurd (b w us rest q)
+list_found total R u c j d k from after rest us vs ts end w m q again n (after_none b h) = absurd (b w us rest q)
 
--- where no template list stands behind a token
-pub no_list_behind : (total : ℕ) (R : TemplateRelation) (word : Bool) (d : ℕ) (text : List ℕ)
+-- where no template list is after a token
+pub no_list_after : (total : ℕ) (R : TemplateRelation) (word : Bool) (d : ℕ) (text : List ℕ)
     (ts : List Token) (end : List ℕ) → (word ≡ true → NoTemplate R text)
-    → Behind total R word d text ts end → Inside total R d text ts end
-no_list_behind total R word d text ts end n (behind_list w us vs rest q e h) = absurd (n w us rest q)
-no_list_behind total R word d text ts end n (behind_none m h) = h
+    → After total R word d text ts end → Inside total R d text ts end
+no_list_after total R word d text ts end n (after_list w us vs rest q e h) = absurd (n w us rest q)
+no_list_after total R word d text ts end n (after_none m h) = h
 
--- the token at the front is the same, and what stands behind it
-behind_front : (t : Token) (j i : ℕ) (ts us vs : List Token) → ts ≡ t ∷ us → NoStop (kinds ts)
+-- the token at the front is the same, and what is after it
+after_front : (t : Token) (j i : ℕ) (ts us vs : List Token) → ts ≡ t ∷ us → NoStop (kinds ts)
     → (is_stop_role (role t.class) ≡ false → Moves (role t.class) 0 j 0 i)
     → (NoStop (kinds us) → Found i us vs) → Found j ts (t ∷ vs)
-behind_front t j i ts us vs e n m f =
+after_front t j i ts us vs e n m f =
     let n' : NoStop (kinds (t ∷ us)) = subst (λ (x : List Token). NoStop (kinds x)) e n in
     subst (λ (x : List Token). Found j x (t ∷ vs)) (sym e) (one_more t j i us vs (m n'.0) (f n'.1))
 
@@ -160,13 +160,13 @@ alike total R u c j text us e (at_opening i t from after e' k vs r g h) d le ts 
     let s = from_opening total R d k from after ts end g (step_at total R d text ts end (token k from after) r h') in
     let m : Moves (role k.class) 0 i 0 (suc i) = subst (λ (x : Role). Moves x 0 i 0 (suc i))
     (sym (opening_role k.class g)) (opening_moves 0 i) in
-    behind_front (at total k from after) i (suc i) ts s.0 vs s.1 n (λ o. m)
+    after_front (at total k from after) i (suc i) ts s.0 vs s.1 n (λ o. m)
     (λ o. alike total R u c (suc i) after vs e h (suc d) (omega arith) s.0 end s.2 o)
 alike total R u c j text us e (at_closing i t from after e' k vs r g h) d le ts end h' n =
     let s = from_closing total R d k from after ts end g (step_at total R d text ts end (token k from after) r h') in
     let m : Moves (role k.class) 0 (suc i) 0 i = subst (λ (x : Role). Moves x 0 (suc i) 0 i)
     (sym (closing_role k.class g)) (closing_moves 0 i) in
-    behind_front (at total k from after) (suc i) i ts s.2 vs s.3 n (λ o. m)
+    after_front (at total k from after) (suc i) i ts s.2 vs s.3 n (λ o. m)
     (λ o. alike total R u c i after vs e h s.0 (omega (arith, s.1, le)) s.2 end s.4 o)
 alike total R u c j text us e (at_template i t from after rest e' k vs ws r w q h) d le ts end h' n =
     let s = from_other total R d k from after ts end (word_goes_on d k.class w)
@@ -178,13 +178,13 @@ alike total R u c j text us e (at_template i t from after rest e' k vs ws r w q 
 alike total R u c j text us e (at_other i t from after e' k vs r g b h) d le ts end h' n =
     let s = from_other total R d k from after ts end (deeper_goes_on j d k.class le g)
     (step_at total R d text ts end (token k from after) r h') in
-    behind_front (at total k from after) j j ts s.0 vs s.1 n
+    after_front (at total k from after) j j ts s.0 vs s.1 n
     (λ o. other_moves (role k.class) k.class j (role_says k.class) (raw_unmarked text from after k r) o g)
     (λ o. alike total R u c j after vs e h d le s.0 end
-    (no_list_behind total R (is_word k.class) d after s.0 end b s.2) o)
+    (no_list_after total R (is_word k.class) d after s.0 end b s.2) o)
 
 -- ---- lists
--- what would stand inside a list that begins at a `<` is a list of expressions, if a list around an
+-- what would be inside a list that begins at a `<` is a list of expressions, if a list around an
 -- operator that ends with this `<` is one
 pub list_within : (total : ℕ) (before : List Token) (less : Token) (ts us : List Token) (depth : ℕ)
     (after end e : List ℕ) → IsList (before ++ (less ∷ ts)) → is_among less.class less_signs ≡ true
@@ -197,7 +197,7 @@ list_within total before less ts us depth after end e (v, d) l h i =
     found =
         alike total (Template total) (template_unique total)
         (template_closed total) 0 after us e i depth (omega arith) ts end h
-        (no_stop_behind before (less ∷ ts) (no_stops v (before ++ (less ∷ ts)) d)).1
+        (no_stop_after before (less ∷ ts) (no_stops v (before ++ (less ∷ ts)) d)).1
 
     refuse : (IsList us → ⊥) → ⊥
     refuse never =

@@ -12,12 +12,12 @@ use Rattle.wgsl_theory_grammar.proofs.Tokens.Unique.{inside_unique, template_uni
 use Rattle.wgsl_theory_grammar.proofs.Tokens.Decided.{IsList}
 use Rattle.wgsl_theory_grammar.proofs.Tokens.Refuted.{refuted, none_greater}
 use Rattle.wgsl_theory_templates.proofs.Swaps.InsideNested.{no_less}
-use Rattle.wgsl_theory_templates.proofs.Swaps.ReadAlike.{no_list_behind, list_within}
+use Rattle.wgsl_theory_templates.proofs.Swaps.ReadAlike.{no_list_after, list_within}
 use Rattle.wgsl_theory_templates.specs.Attempts.{HasNoEnd, NoneAround, ReadsTo, less_signs}
 use Rattle.wgsl_theory_templates.proofs.Swaps.Attempts.{none_begins, none_left_begins, sign_taken}
 
 -- ---- where it ends
--- what stands inside is no list of expressions: then there is none around it
+-- what is inside is no list of expressions: then there is none around it
 pub closed_refutes : (total : ℕ) (text : List ℕ) (us : List Token) (e : List ℕ)
     → Inside total (Template total) 0 text us e → (IsList us → ⊥) → NoneAround total text
 closed_refutes total text us e i never = (
@@ -40,7 +40,7 @@ alone total text seen word depth rest r n never end (ts, i, l) =
     let k = r.back 0 ts end i in
     let e : 0 + depth ≡ depth = omega arith in
     never seen k.0 end (subst (λ (x : ℕ). Inside total (Template total) x rest k.0 end) e
-    (no_list_behind total (Template total) word (0 + depth) rest k.0 end n k.2)) (subst IsList k.1 l)
+    (no_list_after total (Template total) word (0 + depth) rest k.0 end n k.2)) (subst IsList k.1 l)
 
 -- and for each around it
 around : (total : ℕ) (text : List ℕ) (seen : List Token) (word : Bool) (depth : ℕ) (rest : List ℕ)
@@ -52,7 +52,7 @@ around total text seen word depth rest r n never =
       λ before less ts d end c h l.
           let k = r.back d ts end h in
           never d (before ++ (less ∷ seen)) k.0 end
-          (no_list_behind total (Template total) word (d + depth) rest k.0 end n k.2)
+          (no_list_after total (Template total) word (d + depth) rest k.0 end n k.2)
           (subst IsList (ap (λ (x : List Token). before ++ (less ∷ x)) k.1
           ∙ sym (append_assoc before (less ∷ seen) k.0)) l),
     )
@@ -97,18 +97,18 @@ nothing_refutes total text seen word depth rest x r e n =
     (λ d before us end h l. nothing_inside total (d + depth) rest x e n us end h)
 
 -- ---- an operator that ends with a `<`
--- the tokens behind it
-behind_less : (total depth : ℕ) (rest from after : List ℕ) (kind : Kind) (us : List Token) (end : List ℕ)
+-- the tokens after it
+after_less : (total depth : ℕ) (rest from after : List ℕ) (kind : Kind) (us : List Token) (end : List ℕ)
     → raw rest ≡ token kind from after → is_among kind.class less_signs ≡ true
     → Inside total (Template total) depth rest us end
     → (vs : List Token) × (us ≡ at total kind from after ∷ vs) × Inside total (Template total) depth after vs end
-behind_less total depth rest from after kind us end e c h =
+after_less total depth rest from after kind us end e c h =
     let is = sign_taken depth kind.class c in
     let k = from_other total (Template total) depth kind from after us end is.0
     (step_at total (Template total) depth rest us end (token kind from after) e h) in
-    (k.0, k.1, no_list_behind total (Template total) (is_word kind.class) depth after k.0 end (λ w. clash _ w is.1) k.2)
+    (k.0, k.1, no_list_after total (Template total) (is_word kind.class) depth after k.0 end (λ w. clash _ w is.1) k.2)
 
--- one that is refuted with each list around it, wherever it stands
+-- one that is refuted with each list around it, wherever it is
 pub refuted_less_refutes : (total : ℕ) (text : List ℕ) (seen : List Token) (word : Bool) (depth : ℕ)
     (rest from after : List ℕ) (kind : Kind) → ReadsTo total text seen word depth rest
     → raw rest ≡ token kind from after
@@ -116,7 +116,7 @@ pub refuted_less_refutes : (total : ℕ) (text : List ℕ) (seen : List Token) (
 refuted_less_refutes total text seen word depth rest from after kind r e c n =
     around total text seen word depth rest r
     (λ w. none_begins total rest from after kind e (λ l. n.0)) (λ d before us end h l.
-    let k = behind_less total (d + depth) rest from after kind us end e c h in
+    let k = after_less total (d + depth) rest from after kind us end e c h in
     n.1 before (at total kind from after) k.0 (d + depth) end c k.2
     (subst (λ (x : List Token). IsList (before ++ x)) k.1 l))
 
@@ -134,7 +134,7 @@ pub less_refutes : (total : ℕ) (text : List ℕ) (seen : List Token) (word : B
 less_refutes total text seen word rest from after kind r e c n =
     alone total text seen word 0 rest r (λ w. none_begins total rest from after kind e (λ l. n))
     (λ before us end h l.
-    let k = behind_less total 0 rest from after kind us end e c h in
+    let k = after_less total 0 rest from after kind us end e c h in
     less_in_no_list total before (at total kind from after) k.0 after end
     (subst (λ (x : List Token). IsList (before ++ x)) k.1 l) c n k.2)
 

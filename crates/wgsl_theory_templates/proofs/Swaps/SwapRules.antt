@@ -1,4 +1,4 @@
--- Tokens stay a list of expressions where template lists in them, and what stands between
+-- Tokens stay a list of expressions where template lists in them, and what is between
 -- parentheses, stand in place of others.
 use Rattle.std.proofs.Common.{◌≡◌, ℕ, Bool, true, false, ◌&&◌, ◌==◌, if◌then◌else◌, Some, None, List, [], ◌∷◌, ◌++◌, inl, inr, refl, sym, ap, subst, ◌∙◌}
 use Rattle.grammar.specs.Tokens.{Token, Fault, Span, span_between}
@@ -44,7 +44,7 @@ derived : {A : Type 0} (g : Grammar Symbol Value A) (v : A) (xs ys : List Token)
 derived g = means_mono checking checking (same_mode checking) Known D (λ n v xs ys d. d.0) g
 
 -- a right side begins no template list and no parentheses itself, has no checks, and its symbols
--- stand in expressions
+-- are in expressions
 abbrev is_steady : {A : Type 0} → Grammar Symbol Value A → Bool
 is_steady (empty a) = true
 is_steady (token s) = disjoint s (starts)
@@ -122,7 +122,7 @@ ident_rule v xs ys d zs s =
       a.4,
     )
 
--- ---- what stands between two tokens
+-- ---- what is between two tokens
 -- it is made of them and of a part
 made : {A : Type 0} (c e : ℕ) (g : Grammar Symbol Value A) (start end : Token) (w : A) (zs us ms ys : List Token)
     → is_among start.class (c ∷ []) ≡ true → is_among end.class (e ∷ []) ≡ true
@@ -152,7 +152,7 @@ token_between c e g steady plain v xs ys d zs us u i same m =
       last.4,
     )
 
--- what stands between two tokens derives a symbol, in place of it too
+-- what is between two tokens derives a symbol, in place of it too
 abbrev Encloses : Symbol → (Token → List Token → Token → Type 0) → Type 0
 Encloses n P = (s e : Token) (us ps : List Token) → P s us e → (w : Value n) × D n w (s ∷ (us ++ (e ∷ ps))) ps
 
@@ -322,7 +322,7 @@ rule_swaps primary_expression v xs ys here d e zs s = primary_rule v xs ys d zs 
 rule_swaps n v xs ys here d e zs s = steady_rule n
     (implied (in_expression n) (is_steady (written n)) refl e) v xs ys d zs s
 
--- what stands in expressions stands there too with such tokens in place of others
+-- what is in expressions is there too with such tokens in place of others
 pub swapped_derives : (n : Symbol) → in_expression n ≡ true → (v : Value n) (xs ys : List Token)
     → D n v xs ys → (zs : List Token) → Swapped xs zs → Also (D n) zs ys
 swapped_derives n e v xs ys d =

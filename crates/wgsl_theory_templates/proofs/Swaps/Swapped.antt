@@ -1,4 +1,4 @@
--- Tokens in which template lists and what stands between parentheses stand in place of others: this
+-- Tokens in which template lists and what is between parentheses stand in place of others: this
 -- goes both ways and part by part, and how such tokens begin.
 use Rattle.std.proofs.Common.{◌≡◌, ◌↔◌, ◌⊎◌, ℕ, true, false, List, [], ◌∷◌, ◌++◌, inl, inr, refl, sym, ap, subst, ◌∙◌, append_assoc}
 use Rattle.grammar.specs.Tokens.{Token}
@@ -54,9 +54,9 @@ swapped_back _ _ (one_token t u xs ys c s) = one_token u t ys xs (sym c) (swappe
 swapped_back _ _ (one_enclosed s e t f us vs xs ys a m) = one_enclosed t f s e vs us ys xs
     (alike_back s e t f us vs a) (swapped_back xs ys m)
 
--- with more behind
-enclosed_behind : (t e : Token) (us xs zs : List Token) → t ∷ (us ++ (e ∷ (xs ++ zs))) ≡ (t ∷ (us ++ (e ∷ xs))) ++ zs
-enclosed_behind t e us xs zs = ap (λ (l : List Token). t ∷ l) (sym (append_assoc us (e ∷ xs) zs))
+-- with more after
+enclosed_after : (t e : Token) (us xs zs : List Token) → t ∷ (us ++ (e ∷ (xs ++ zs))) ≡ (t ∷ (us ++ (e ∷ xs))) ++ zs
+enclosed_after t e us xs zs = ap (λ (l : List Token). t ∷ l) (sym (append_assoc us (e ∷ xs) zs))
 
 pub both_swapped : (xs ys : List Token) → Swapped xs ys → (ps qs : List Token) → Swapped ps qs
     → Swapped (xs ++ ps) (ys ++ qs)
@@ -64,8 +64,8 @@ both_swapped _ _ no_tokens ps qs m = m
 both_swapped _ _ (one_token t u xs ys c s) ps qs m = one_token t u (xs ++ ps) (ys ++ qs) c
     (both_swapped xs ys s ps qs m)
 both_swapped _ _ (one_enclosed s e t f us vs xs ys a n) ps qs m =
-    subst (λ (l : List Token). Swapped l ((t ∷ (vs ++ (f ∷ ys))) ++ qs)) (enclosed_behind s e us xs ps)
-    (subst (λ (l : List Token). Swapped (s ∷ (us ++ (e ∷ (xs ++ ps)))) l) (enclosed_behind t f vs ys qs)
+    subst (λ (l : List Token). Swapped l ((t ∷ (vs ++ (f ∷ ys))) ++ qs)) (enclosed_after s e us xs ps)
+    (subst (λ (l : List Token). Swapped (s ∷ (us ++ (e ∷ (xs ++ ps)))) l) (enclosed_after t f vs ys qs)
     (one_enclosed s e t f us vs (xs ++ ps) (ys ++ qs) a (both_swapped xs ys n ps qs m)))
 
 -- ---- how they begin

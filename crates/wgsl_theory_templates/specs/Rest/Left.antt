@@ -16,7 +16,7 @@ IsBeforeEnd total [] from = ⊤
 IsBeforeEnd total (end ∷ ends) from = place total from ≡ end → ⊥
 
 -- The tokens of a text inside template lists whose ends are known, the innermost first, and how
--- they end; a template list may begin the text where it stands behind a word.
+-- they end; a template list may begin the text where it is after a word.
 pub data LeftOf (total : ℕ) : List ℕ → Bool → List ℕ → List Token → Ending → Type 0 where
   left_nothing : (ends : List ℕ) (word : Bool) (text : List ℕ) → raw text ≡ none_left
       → LeftOf total ends word text [] finished

@@ -1,4 +1,4 @@
--- A comment, and after it a text in which each closing bracket that begins a line stands as deep as
+-- A comment, and after it a text in which each closing bracket that begins a line is as deep as
 -- the line of its opening bracket.
 use Rattle.std.proofs.Common.{◌≡◌, ℕ, suc, ◌==◌, ◌&&◌, Bool, true, false, refl, sym, ap, subst, ◌∙◌, List, [], ◌∷◌, ◌++◌, append-nil}
 use Rattle.wgsl_model.specs.Tokens.ClassTable.{BlockComment}
@@ -29,7 +29,7 @@ over_opening : (depth : ℕ) (r : List ℕ) (line : Line) (opened : List Line)
 over_opening depth r line opened a = block_over depth 47 (42 ∷ r) line opened
     (second_over (in_block (suc depth)) 42 r line opened refl a)
 
--- so many comments deep in it, up to its end, and what comes after it
+-- a number of comments deep in it, up to its end, and what comes after it
 module _ {closed : Bool} (line : Line) (opened : List Line) (rest : List ℕ)
     (follows : Follows closed line opened rest) where
   nothing_after : closed ≡ false → rest ≡ []
@@ -64,7 +64,7 @@ module _ {closed : Bool} (line : Line) (opened : List Line) (rest : List ℕ)
 
 -- ---- comments
 
--- what follows a comment stands in the line in which it began, or in one that begins in it
+-- what follows a comment is in the line in which it began, or in one that begins in it
 abbrev pub AlignedAfter : Last → Line → List Line → List ℕ → Type 0
 AlignedAfter line_comment line opened r = Aligned in_line line opened r
 AlignedAfter open_comment line opened r = Unit {0}

@@ -1,4 +1,4 @@
--- The line in which a piece is laid out after a gap, and how deep it stands.
+-- The line in which a piece is formatted after a gap, and how deep it is.
 use Rattle.std.proofs.Common.{◌≡◌, ℕ, zero, suc, Bool, true, false, cond, refl, sym, ap, subst, ◌∙◌, List, [], ◌∷◌, ◌++◌}
 use Rattle.wgsl_model.specs.Tokens.Trivia.{outside, in_line}
 use Rattle.wgsl_model_tidy.specs.Brackets.{Line, blank, begun, in_comment}
@@ -6,7 +6,7 @@ use Rattle.wgsl_model_tidy.specs.Roles.{Role, beginning, is}
 use Rattle.wgsl_model_tidy.specs.Joints.{Joint, line, nothing, space, nothing_or_line, space_or_line, joint}
 use Rattle.wgsl_model_tidy.specs.Layout.{Layout}
 use Rattle.wgsl_model_tidy.specs.Open.{Enclosing}
-use Rattle.wgsl_model_tidy.specs.LaidOut.{Gap, Gap.closed, Gap.blank as one_blank, broken, Last, token, line_comment, block_comment, leading_comment, open_comment, Spot, kept_gap, joint_gap, behind_comment, behind_leading, token_gap, comment_gap, gap_text, indentation, depth_behind}
+use Rattle.wgsl_model_tidy.specs.LaidOut.{Gap, Gap.closed, Gap.blank as one_blank, broken, Last, token, line_comment, block_comment, leading_comment, open_comment, Spot, kept_gap, joint_gap, after_comment, after_leading, token_gap, comment_gap, gap_text, indentation, depth_after}
 use Rattle.wgsl_theory_tidy.proofs.Kept.AlignedTexts.{Aligned, entered, break_over, one_space_over}
 use Rattle.wgsl_theory_tidy.proofs.Kept.AlignedComments.{AlignedAfter}
 
@@ -46,11 +46,11 @@ token_gapped inside token left right n break = gapped_if break token (is left be
     (no_gap tt) (joint_gapped break token tt (joint inside left right) n)
 token_gapped inside line_comment left right n break = break_gap
 token_gapped inside block_comment left right n break = joint_gapped break block_comment tt
-    (behind_comment (joint inside left right) right) n
+    (after_comment (joint inside left right) right) n
 token_gapped inside leading_comment left right n break = joint_gapped break leading_comment tt
-    (behind_leading (joint inside left right) right) n
+    (after_leading (joint inside left right) right) n
 token_gapped inside open_comment left right n break = joint_gapped break open_comment tt
-    (behind_comment (joint inside left right) right) n
+    (after_comment (joint inside left right) right) n
 
 pub comment_gapped : (class : ℕ) (last : Last) (left : Role) (own : Bool) (n : ℕ) (break : Gap)
     → Gapped break last (comment_gap class last left own n break)
@@ -77,7 +77,7 @@ comment_at_start class last left own n break e h = rw (e, h) refl
 
 -- ---- the line
 
--- a line so deep, in which more than its blank space stands; or one that begins in a comment
+-- a line so deep, in which more than its blank space is; or one that begins in a comment
 pub data InLine (layout : Layout) (depth : ℕ) : Line → Type 0 where
   shown : InLine layout depth (begun (indentation layout depth))
   hidden : InLine layout depth in_comment
@@ -86,7 +86,7 @@ pub in_entered : (layout : Layout) (depth : ℕ) (l : Line) → InLine layout de
 in_entered layout depth _ (shown) = refl
 in_entered layout depth _ (hidden) = refl
 
--- the line at a spot where so much is open; the text begins there, or something stands before it in
+-- the line at a spot where so much is open; the text begins there, or something is before it in
 -- its line
 pub data Stands (layout : Layout) (spot : Spot) (marks : List Bool) : Line → Type 0 where
   at_start : spot.last ≡ token → is spot.state.last beginning ≡ true → spot.state.line ≡ 0
@@ -94,7 +94,7 @@ pub data Stands (layout : Layout) (spot : Spot) (marks : List Bool) : Line → T
   within : (l : Line) → InLine layout spot.state.line l → Stands layout spot marks l
 
 -- the line before a piece, after a gap: one that begins with the gap, so deep; the first line of
--- the text; or one in which something stands
+-- the text; or one in which something is
 pub data Before (layout : Layout) (break depth : ℕ) (marks : List Bool) : Line → Type 0 where
   begins : depth ≡ break → Before layout break depth marks (blank (indentation layout depth))
   first : depth ≡ 0 → marks ≡ [] → Before layout break depth marks (blank [])
@@ -128,7 +128,7 @@ break_after layout open_comment empty depth l opened r a = tt
 within_over : (layout : Layout) (last : Last) (now : ℕ) (marks : List Bool) (l : Line) (opened : List Line)
     → InLine layout now l → (empty : Bool) (depth : ℕ) (gap : Gap)
     → Gapped (broken empty depth) last gap → (r : List ℕ)
-    → ((m : Line) → Before layout depth (depth_behind gap now) marks m → Aligned outside m opened r)
+    → ((m : Line) → Before layout depth (depth_after gap now) marks m → Aligned outside m opened r)
     → AlignedAfter last l opened (gap_text layout gap ++ r)
 within_over layout last now marks l opened h empty depth _ (no_gap o) r k =
     outside_after last o l opened r (k l (goes_on l h))
@@ -137,16 +137,16 @@ within_over layout last now marks l opened h empty depth _ (one_gap o) r k = out
 within_over layout last now marks l opened h empty depth _ (break_gap) r k = break_after layout last
     empty depth l opened r (k (blank (indentation layout depth)) (begins refl))
 
--- over a gap, to what stands after it in its line
+-- over a gap, to what is after it in its line
 pub gap_over : (layout : Layout) (spot : Spot) (marks : List Bool) (l : Line) (opened : List Line)
     → Stands layout spot marks l → (empty : Bool) (depth : ℕ) (gap : Gap)
     → Gapped (broken empty depth) spot.last gap → ClosedAtStart spot.last spot.state.last gap
-    → (r : List ℕ) → ((m : Line) → Before layout depth (depth_behind gap spot.state.line) marks m
+    → (r : List ℕ) → ((m : Line) → Before layout depth (depth_after gap spot.state.line) marks m
     → Aligned outside m opened r) → AlignedAfter spot.last l opened (gap_text layout gap ++ r)
 gap_over layout spot marks l opened (within _ h) empty depth gap g c r k =
     within_over layout spot.last spot.state.line marks l opened h empty depth gap g r k
 gap_over layout spot marks _ opened (at_start e b n m) empty depth gap g c r k =
     let none : gap ≡ closed = c e b in
-    let line_depth : depth_behind gap spot.state.line ≡ 0 = ap (λ x. depth_behind x spot.state.line) none ∙ n in
+    let line_depth : depth_after gap spot.state.line ≡ 0 = ap (λ x. depth_after x spot.state.line) none ∙ n in
     subst (λ x. AlignedAfter spot.last (blank []) opened (gap_text layout x ++ r)) (sym none)
     (subst (λ x. AlignedAfter x (blank []) opened r) (sym e) (k (blank []) (first line_depth m)))

@@ -1,5 +1,5 @@
--- A piece is laid out before others: where the closing brackets of what follows are aligned, so are
--- those of all.
+-- A piece is formatted before others: where the closing brackets of what follows are aligned, so
+-- are those of all.
 use Rattle.std.proofs.Common.{◌≡◌, ℕ, Bool, true, false, cond, refl, sym, ap, subst, ◌∙◌, List, [], ◌∷◌, ◌++◌, append_assoc, append-nil, drop, Some, None}
 use Rattle.std.proofs.lemmas.Bool.{true≢false}
 use Rattle.wgsl_model.specs.Tokens.Kind.{Kind}
@@ -8,10 +8,10 @@ use Rattle.wgsl_model_tidy.specs.Brackets.{Line, blank, begun, in_comment}
 use Rattle.wgsl_model_tidy.specs.Pieces.{Piece}
 use Rattle.wgsl_model_tidy.specs.Roles.{Role, beginning, closing, opening, is}
 use Rattle.wgsl_model_tidy.specs.Layout.{Layout, column_after}
-use Rattle.wgsl_model_tidy.specs.Open.{Open, Opened, Style, LayoutState, enclosing, between_items, outer_depth, depth_of, comment_depth, role_in, opened_behind}
-use Rattle.wgsl_model_tidy.specs.LaidOut.{Gap, Last, token, line_comment, block_comment, leading_comment, open_comment, Spot, is_comment, operand_follows, next_role, owned, line_end, gap_before_comment, gap_before_token, gap_text, indentation, depth_behind, piece_text, leads, comment_last, laid_from, ending}
+use Rattle.wgsl_model_tidy.specs.Open.{Open, Opened, Style, LayoutState, enclosing, between_items, outer_depth, depth_of, comment_depth, role_in, opened_after_token}
+use Rattle.wgsl_model_tidy.specs.LaidOut.{Gap, Last, token, line_comment, block_comment, leading_comment, open_comment, Spot, is_comment, operand_follows, next_role, owned, line_end, gap_before_comment, gap_before_token, gap_text, indentation, depth_after, piece_text, leads, comment_last, laid_from, ending}
 use Rattle.wgsl_theory_tidy.proofs.Comments.{piece}
-use Rattle.wgsl_theory_tidy.proofs.Laid.{behind_comment_at, behind_token_at, style_at, token_laid}
+use Rattle.wgsl_theory_tidy.proofs.Laid.{after_comment_at, after_token_at, style_at, token_laid}
 use Rattle.wgsl_theory_tidy.proofs.Kept.Readings.{IsToken, token_piece}
 use Rattle.wgsl_theory_tidy.proofs.Kept.ClosedComments.{Closed, Unclosed, unclosed, AllClosedButLast, no_more, one_more, last_open}
 use Rattle.wgsl_theory_tidy.proofs.Kept.Gaps.{closed_is_comment, unclosed_is_comment}
@@ -37,7 +37,7 @@ text_there layout spot class text n ps = piece_text layout spot (gap_there spot 
 abbrev after_comment : Layout → Spot → ℕ → List ℕ → ℕ → List Piece → Spot
 after_comment layout spot class text n ps =
     let gap = gap_there spot class n ps in
-    behind_comment_at spot.state (depth_behind gap spot.state.line)
+    after_comment_at spot.state (depth_after gap spot.state.line)
     (comment_last class (leads gap spot.last spot.state.last))
     (column_after layout spot.column (gap_text layout gap ++ text_there layout spot class text n ps))
 
@@ -50,7 +50,7 @@ comment_laid layout spot class text n ps h = rw h refl
 -- over the gap before a comment
 comment_gap_over : (layout : Layout) (spot : Spot) (marks : List Bool) (l : Line) (opened : List Line)
     → Stands layout spot marks l → (right : Role) (class : ℕ) (own : Bool) (n : ℕ) (r : List ℕ)
-    → ((m : Line) → Before layout (comment_depth spot.state right) (depth_behind
+    → ((m : Line) → Before layout (comment_depth spot.state right) (depth_after
     (gap_before_comment spot right class own n) spot.state.line) marks m → Aligned outside m opened r)
     → AlignedAfter spot.last l opened (gap_text layout (gap_before_comment spot right class own n) ++ r)
 comment_gap_over layout spot marks l opened s right class own n r k =
@@ -81,7 +81,7 @@ comment_step layout spot class text n ps c marks l opened s k =
     comment_over class written (closed_text layout spot gap class text n c)
     (leads gap spot.last spot.state.last) m opened (laid_from layout after ps)
     (k (entered m) (within (entered m) (after_entered layout (comment_depth spot.state right)
-    (depth_behind gap spot.state.line) marks m b)))
+    (depth_after gap spot.state.line) marks m b)))
     (k in_comment (within in_comment hidden))))
 
 unclosed_ends : (class : ℕ) (text : List ℕ) → Unclosed class text → (leading : Bool) (left : Role)
@@ -163,7 +163,7 @@ other_closed layout _ ms _ _ (agree_bracket ns kind depth os l ls i a) e = absur
 other_closed layout _ ms _ ls (agree_other ns kind depth os _ a) e =
     let same : ns ≡ ms = cc in subst (λ xs. Agree layout xs os ls) same a
 
--- a closing bracket before which nothing stands in its line
+-- a closing bracket before which nothing is in its line
 closing_aligns : (layout : Layout) (break depth : ℕ) (marks ms : List Bool) (os : Opened) (ls : List Line)
     (l : Line) (c : ℕ) → break ≡ outer_depth os → opened_after (closes true) marks ≡ Some ms
     → BracketClosed layout ms os ls → Before layout break depth marks l
@@ -201,9 +201,9 @@ abbrev pub after_token : Layout → Spot → ℕ → List ℕ → ℕ → List P
 after_token layout spot class w n ps =
     let right = role_in spot.state class (operand_follows ps) in
     let gap = gap_before_token spot right n in
-    let depth = depth_behind gap spot.state.line in
+    let depth = depth_after gap spot.state.line in
     let column = column_after layout spot.column (gap_text layout gap ++ w) in
-    behind_token_at spot.state depth class right column (style_at layout spot.state depth class right column ps)
+    after_token_at spot.state depth class right column (style_at layout spot.state depth class right column ps)
 
 token_laid_here : (layout : Layout) (spot : Spot) (class : ℕ) (w : List ℕ) (n : ℕ) (ps : List Piece)
     → is_comment class ≡ false
@@ -219,7 +219,7 @@ token_laid_here layout spot class w n ps h =
 other_agrees : (layout : Layout) (state : LayoutState) (line : ℕ) (right : Role) (style : Style)
     (e : Effect) (marks ms : List Bool) (ls : List Line)
     → HasEffect e right → NoBracket e → opened_after e marks ≡ Some ms
-    → Agree layout marks state.opened ls → Agree layout ms (opened_behind state line right style) ls
+    → Agree layout marks state.opened ls → Agree layout ms (opened_after_token state line right style) ls
 other_agrees layout state line right style (opens false) marks ms ls h n s a =
     let does = h state line style in
     let same : false ∷ marks ≡ ms = cc in
@@ -240,27 +240,27 @@ other_agrees layout state line right style (none) marks ms ls h n s a =
 opening_agrees : (layout : Layout) (state : LayoutState) (line : ℕ) (right : Role) (style : Style)
     (marks ms : List Bool) (l : Line) (ls : List Line)
     → right ≡ opening → opened_after (opens true) marks ≡ Some ms → InLine layout line l
-    → Agree layout marks state.opened ls → Agree layout ms (opened_behind state line right style) (l ∷ ls)
+    → Agree layout marks state.opened ls → Agree layout ms (opened_after_token state line right style) (l ∷ ls)
 opening_agrees layout state line right style marks ms l ls e s i a =
     let same : true ∷ marks ≡ ms = cc in
-    subst (λ x. Agree layout ms (opened_behind state line x style) (l ∷ ls)) (sym e)
-    (subst (λ xs. Agree layout xs (opened_behind state line opening style) (l ∷ ls)) same
+    subst (λ x. Agree layout ms (opened_after_token state line x style) (l ∷ ls)) (sym e)
+    (subst (λ xs. Agree layout xs (opened_after_token state line opening style) (l ∷ ls)) same
     (agree_bracket marks _ line state.opened l ls i a))
 
 -- a closing bracket closes the last of them
 closing_agrees : (layout : Layout) (state : LayoutState) (line : ℕ) (right : Role) (style : Style)
     (ms : List Bool) (ls : List Line)
     → right ≡ closing → BracketClosed layout ms state.opened ls
-    → Agree layout ms (opened_behind state line right style) (drop 1 ls)
+    → Agree layout ms (opened_after_token state line right style) (drop 1 ls)
 closing_agrees layout state line right style ms ls e b =
-    subst (λ x. Agree layout ms (opened_behind state line x style) (drop 1 ls)) (sym e) b.left
+    subst (λ x. Agree layout ms (opened_after_token state line x style) (drop 1 ls)) (sym e) b.left
 
 -- the token in its line
 in_its_line : (layout : Layout) (state : LayoutState) (line : ℕ) (style : Style) (k : Kind) (operand : Bool)
     (w r : List ℕ) → WordOf k w → IsToken k w r → (marks ms : List Bool) (l : Line) (ls : List Line)
     → opened_after (effect k.class) marks ≡ Some ms → Agree layout marks state.opened ls
     → Before layout (depth_of state (role_in state k.class operand)) line marks l
-    → ((m : Line) (ns : List Line) → InLine layout line m → Agree layout ms (opened_behind state line
+    → ((m : Line) (ns : List Line) → InLine layout line m → Agree layout ms (opened_after_token state line
     (role_in state k.class operand) style) ns → Aligned outside m ns r) → Aligned outside l ls (w ++ r)
 in_its_line layout state line style k operand _ r (opening_word c d o x e) i marks ms l ls s a b next =
     let role : role_in state k.class operand ≡ opening = role_effect state k.class operand (opens true) e in
@@ -297,7 +297,7 @@ token_step layout spot k w n ps h i marks ms l ls e a s next =
     let right = role_in spot.state k.class (operand_follows ps) in
     let gap = gap_before_token spot right n in
     let after = after_token layout spot k.class w n ps in
-    let depth = depth_behind gap spot.state.line in
+    let depth = depth_after gap spot.state.line in
     let column = column_after layout spot.column (gap_text layout gap ++ w) in
     let break = line_end (between_items spot.state right) spot.last spot.state.last right n
     (depth_of spot.state right) in

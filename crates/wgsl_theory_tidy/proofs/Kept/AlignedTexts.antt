@@ -1,4 +1,4 @@
--- Texts in which each closing bracket that begins a line stands as deep as the line of its opening
+-- Texts in which each closing bracket that begins a line is as deep as the line of its opening
 -- bracket: what may come before such a text.
 use Rattle.std.proofs.Common.{◌≡◌, ℕ, ◌==◌, ◌||◌, Bool, true, false, cond, refl, sym, subst, ◌∙◌, List, [], ◌∷◌, ◌++◌, append_assoc, append-nil, drop}
 use Rattle.std.proofs.lemmas.Bool.{true≢false, false_from_ne_true}
@@ -13,7 +13,7 @@ use Rattle.wgsl_theory_tidy.proofs.Levels.{IsIndent, no_indent, one_space, one_t
 use Rattle.wgsl_theory_tidy.proofs.Comments.{OnLine}
 use Rattle.wgsl_theory_tidy.proofs.Kept.NeatTexts.{CanBreak, break_is_blank}
 
--- ---- each character where it stands
+-- ---- each character where it is
 
 -- outside comments a character is a bracket that opens or closes
 abbrev pub is_opening : ℕ → Bool
@@ -42,7 +42,7 @@ Aligned p line opened (c ∷ cs) = Aligns p line opened c
 pub no_closing : (p : Place) (line : Line) (opened : List Line) (c : ℕ) → closes_at p c ≡ false → Aligns p line opened c
 no_closing p line opened c h k = absurd (true≢false (sym k ∙ h))
 
--- a line in which more than blank space stands
+-- a line in which more than blank space is
 abbrev pub entered : Line → Line
 entered (blank space) = begun space
 entered line = line
@@ -121,7 +121,7 @@ break_over layout in_line o false depth line opened r a = (
 break_over layout (in_block n) o empty depth line opened r a = absurd o
 break_over layout (second p) o empty depth line opened r a = absurd o
 
--- a space in a line in which more stands
+-- a space in a line in which more is
 pub one_space_over : (line : Line) (opened : List Line) (r : List ℕ) → entered line ≡ line
     → Aligned outside line opened r → Aligned outside line opened (32 ∷ r)
 one_space_over (blank space) opened r e a = absurd cc
@@ -130,7 +130,7 @@ one_space_over (in_comment) opened r e a = (no_closing outside in_comment opened
 
 -- ---- comments
 
--- a line in which more stands goes on
+-- a line in which more is goes on
 pub stays_entered : (p : Place) (line : Line) (c : ℕ) → is_line_break c ≡ false
     → next_line p (entered line) c ≡ entered line
 stays_entered p (blank space) c h = rw h refl
@@ -146,7 +146,7 @@ sign_over p d r l e line opened a = (
   rw (e, enters outside line 47 refl) ((λ h q. absurd cc), rw (stays_entered (second p) line d l) a),
 )
 
--- in a line in which more stands, and in one that begins in a comment
+-- in a line in which more is, and in one that begins in a comment
 abbrev pub AlignedEither : Place → Line → List Line → List ℕ → Type 0
 AlignedEither p line opened r = Aligned p (entered line) opened r × Aligned p in_comment opened r
 

@@ -1,4 +1,4 @@
--- A token, and after it a text in which each closing bracket that begins a line stands as deep as
+-- A token, and after it a text in which each closing bracket that begins a line is as deep as
 -- the line of its opening bracket.
 use Rattle.std.proofs.Common.{◌≡◌, ℕ, ◌==◌, true, false, not, refl, subst, List, [], ◌∷◌, ◌++◌, drop, sym}
 use Rattle.std.proofs.lemmas.Bool.{and_parts, not-true}

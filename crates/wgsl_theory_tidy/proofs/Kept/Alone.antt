@@ -1,4 +1,4 @@
--- Characters that stand in no token but alone.
+-- Characters that are in no token but alone.
 use Rattle.std.proofs.Common.{◌≡◌, ℕ, false, refl, List, [], ◌∷◌, ◌++◌, lit<}
 use Rattle.unicode_ident.proofs.IdentLemmas.{is_xid_start-ascii, is_xid_continue-ascii}
 use Rattle.wgsl_model.specs.Tokens.Spelling.{spelling}

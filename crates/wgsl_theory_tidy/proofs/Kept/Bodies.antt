@@ -6,8 +6,8 @@ use Rattle.wgsl_model.specs.Tokens.Trivia.{first_or_zero}
 use Rattle.wgsl_model_tidy.specs.Shown.{without_returns, is_space, with_front}
 use Rattle.wgsl_theory_tidy.proofs.Levels.{IsIndent, no_indent, one_space, one_tab}
 
--- so many comments deep in it: up to its end, or up to the end of the whole text, where it is not
--- closed
+-- a number of comments deep in it: up to its end, or up to the end of the whole text, where it is
+-- not closed
 pub data IsBody (closed : Bool) : ℕ → List ℕ → Type 0 where
   body_end : closed ≡ true → IsBody closed 0 (42 ∷ (47 ∷ []))
   text_end : (depth : ℕ) → closed ≡ false → IsBody closed depth []

@@ -1,4 +1,4 @@
--- In a text where each closing bracket that begins a line stands as deep as the line of the
+-- In a text where each closing bracket that begins a line is as deep as the line of the
 -- innermost open bracket, the brackets of each pair do.
 use Rattle.std.proofs.Common.{◌≡◌, ℕ, suc, ◌-◌, ◌==◌, ◌&&◌, ◌||◌, Bool, true, false, cond, not, refl, sym, ap, subst, ◌∙◌, List, [], ◌∷◌, ◌++◌, length, drop, append_assoc, arith}
 use Rattle.std.proofs.lemmas.Bool.{true≢false, eqb-true, and_parts}
@@ -77,7 +77,7 @@ paired_through : (front rest : List ℕ) → StayOpen front rest
 paired_through [] rest p l ms ls h = ap (λ xs. xs ++ ls) (none_more ms h)
 paired_through (c ∷ front) rest p l ms ls h = one_character c front rest (paired_through front rest) p l ms ls h
 
--- a bracket stands outside comments, and so does what follows it
+-- a bracket is outside comments, and so does what follows it
 opens_outside : (p : Place) (c : ℕ) → opens_at p c ≡ true → p ≡ outside
 opens_outside outside c h = refl
 opens_outside in_line c h = absurd (true≢false (sym h))

@@ -5,7 +5,7 @@ use Rattle.grammar.specs.Grammar.{is_among}
 use Rattle.wgsl_model.specs.Tokens.ClassTable.{LineComment, BlockComment, AbstractFloat, AbstractInt, F16, F32, I32, Ident, KwDiagnostic, KwElse, KwFalse, KwTrue, ReservedWord, SymAnd, SymAttr, SymBang, SymBraceLeft, SymBraceRight, SymBracketLeft, SymBracketRight, SymColon, SymComma, SymMinus, SymMinusMinus, SymParenLeft, SymParenRight, SymPeriod, SymPlusPlus, SymSemicolon, SymStar, SymTilde, TemplateArgsEnd, TemplateArgsStart, U32}
 use Rattle.wgsl_model_tidy.specs.Pieces.{OpenComment}
 use Rattle.wgsl_model_tidy.specs.Roles.{Role, is_operator, name, unsuffixed, number, word, else_word, comma, semicolon, colon, period, at, step, binary, minus, ampersand, prefix, opening, closing, template_start, template_end, block_start, block_end, beginning, attribute, is, ends_operand, opens_bracket, closes_bracket, sign_role, role_of}
-use Rattle.wgsl_model_tidy.specs.Open.{Opened, Style, together, arguments, bracket, LayoutState, one_line, enclosed_by, enclosing, role_in, opened_behind, last_behind}
+use Rattle.wgsl_model_tidy.specs.Open.{Opened, Style, together, arguments, bracket, LayoutState, one_line, enclosed_by, enclosing, role_in, opened_after_token, last_after}
 use Rattle.wgsl_model_tidy.specs.LaidOut.{is_comment, opens_one, closes_one}
 
 -- ---- what holds of a role by its class
@@ -163,7 +163,7 @@ opens_later left h = absurd (true≢false (sym h))
 
 -- to what follows it is an opening bracket
 pub opens_last : (state : LayoutState) (right : Role) → opens_bracket right ≡ true
-    → opens_bracket (last_behind state right) ≡ true
+    → opens_bracket (last_after state right) ≡ true
 opens_last state opening h = refl
 opens_last state template_start h = refl
 opens_last state right h = absurd (true≢false (sym h))
@@ -175,7 +175,7 @@ either_enclosed false style line opened = refl
 
 -- it encloses what follows
 pub opens_enclosing : (state : LayoutState) (line : ℕ) (right : Role) (style : Style)
-    → opens_bracket right ≡ true → enclosing (opened_behind state line right style) ≡ enclosed_by style
+    → opens_bracket right ≡ true → enclosing (opened_after_token state line right style) ≡ enclosed_by style
 opens_enclosing state line opening style h = either_enclosed (is state.last attribute) style line state.opened
 opens_enclosing state line template_start style h = refl
 opens_enclosing state line right style h = absurd (true≢false (sym h))
@@ -183,7 +183,7 @@ opens_enclosing state line right style h = absurd (true≢false (sym h))
 -- after other tokens it does not matter how a bracket is written
 pub opens_none : (state : LayoutState) (line : ℕ) (right : Role) (style other : Style)
     → opens_bracket right ≡ false
-    → opened_behind state line right style ≡ opened_behind state line right other
+    → opened_after_token state line right style ≡ opened_after_token state line right other
 opens_none state line opening style other h = absurd (true≢false h)
 opens_none state line template_start style other h = absurd (true≢false h)
 opens_none state line right style other h = refl
@@ -205,21 +205,21 @@ flat_drops n [] f = absurd f
 flat_drops n (x ∷ xs) f = f.1
 
 pub flat_opens : (n : ℕ) (state : LayoutState) (line : ℕ) (right : Role) → opens_bracket right ≡ true
-    → AreFlat n state.opened → AreFlat (suc n) (opened_behind state line right together)
+    → AreFlat n state.opened → AreFlat (suc n) (opened_after_token state line right together)
 flat_opens n state line opening h f = (either_enclosed (is state.last attribute) together line state.opened, f)
 flat_opens n state line template_start h f = (refl, f)
 flat_opens n state line right h f = absurd (true≢false (sym h))
 
 flat_closes : (n : ℕ) (state : LayoutState) (line : ℕ) (right : Role) (style : Style)
     → closes_bracket right ≡ true → AreFlat (suc n) state.opened
-    → AreFlat n (opened_behind state line right style)
+    → AreFlat n (opened_after_token state line right style)
 flat_closes n state line closing style c f = flat_drops n state.opened f
 flat_closes n state line template_end style c f = flat_drops n state.opened f
 flat_closes n state line right style c f = absurd (true≢false (sym c))
 
 stays_open : (state : LayoutState) (line : ℕ) (right : Role) (style : Style)
     → opens_bracket right ≡ false → closes_bracket right ≡ false → is_brace right ≡ false
-    → opened_behind state line right style ≡ state.opened
+    → opened_after_token state line right style ≡ state.opened
 stays_open state line opening style o c b = absurd (true≢false o)
 stays_open state line template_start style o c b = absurd (true≢false o)
 stays_open state line closing style o c b = absurd (true≢false c)
@@ -228,18 +228,18 @@ stays_open state line block_start style o c b = absurd (true≢false b)
 stays_open state line block_end style o c b = absurd (true≢false b)
 stays_open state line right style o c b = refl
 
--- how many are open behind a token that closes one, opens one or does neither, where n and one were
-abbrev pub open_behind : Bool → Bool → ℕ → ℕ
-open_behind closes opens n = cond closes n (cond opens (suc (suc n)) (suc n))
+-- how many are open after a token that closes one, opens one or does neither, where n and one were
+abbrev pub open_after : Bool → Bool → ℕ → ℕ
+open_after closes opens n = cond closes n (cond opens (suc (suc n)) (suc n))
 
 -- those are in one line too, if one that it opens is
-pub flat_behind : (n : ℕ) (state : LayoutState) (line : ℕ) (right : Role) (style : Style) (closes opens : Bool)
+pub flat_after : (n : ℕ) (state : LayoutState) (line : ℕ) (right : Role) (style : Style) (closes opens : Bool)
     → closes_bracket right ≡ closes → opens_bracket right ≡ opens → is_brace right ≡ false
     → (opens ≡ true → style ≡ together) → AreFlat (suc n) state.opened
-    → AreFlat (open_behind closes opens n) (opened_behind state line right style)
-flat_behind n state line right style true opens c o b h f = flat_closes n state line right style c f
-flat_behind n state line right style false true c o b h f =
-    subst (λ l. AreFlat (suc (suc n)) (opened_behind state line right l)) (sym (h refl))
+    → AreFlat (open_after closes opens n) (opened_after_token state line right style)
+flat_after n state line right style true opens c o b h f = flat_closes n state line right style c f
+flat_after n state line right style false true c o b h f =
+    subst (λ l. AreFlat (suc (suc n)) (opened_after_token state line right l)) (sym (h refl))
     (flat_opens (suc n) state line right o f)
-flat_behind n state line right style false false c o b h f = subst (AreFlat (suc n))
+flat_after n state line right style false false c o b h f = subst (AreFlat (suc n))
     (sym (stays_open state line right style o c b)) f

@@ -5,8 +5,8 @@ use Rattle.grammar.specs.Grammar.{is_among}
 use Rattle.wgsl_model.specs.Tokens.ClassTable.{LineComment, SymBraceLeft, SymBraceRight}
 use Rattle.wgsl_model_tidy.specs.Pieces.{Piece}
 use Rattle.wgsl_model_tidy.specs.LaidOut.{breaks, opens_one, closes_one, has_break, has_lines, is_comment}
-use Rattle.wgsl_theory_tidy.proofs.Kept.Relaid.{behind_ends}
-use Rattle.wgsl_theory_tidy.proofs.Kept.BracketRoles.{comment_opens_none, comment_closes_none, open_behind}
+use Rattle.wgsl_theory_tidy.proofs.Kept.Relaid.{after_ends}
+use Rattle.wgsl_theory_tidy.proofs.Kept.BracketRoles.{comment_opens_none, comment_closes_none, open_after}
 
 -- ---- tests
 
@@ -56,15 +56,15 @@ smooth p e =
     unnot true h = refl
     unnot false h = absurd (true≢false h)
 
-pub smooth_again : (p : Piece) (n : ℕ) → IsSmooth p → n ≡ 0 → breaks (behind_ends p n) ≡ false
+pub smooth_again : (p : Piece) (n : ℕ) → IsSmooth p → n ≡ 0 → breaks (after_ends p n) ≡ false
 smooth_again p n s e = rw (e, s.no_line_comment, s.no_left, s.no_right) refl
 
 -- ---- the brackets that are open
 
 -- after a comment they are as many as before it
-pub comment_open : (n class : ℕ) → is_comment class ≡ true → open_behind (closes_one class) (opens_one class) n ≡ suc n
-comment_open n class h = ap (λ c. open_behind c (opens_one class) n) (comment_closes_none class h)
-    ∙ ap (λ o. open_behind false o n) (comment_opens_none class h)
+pub comment_open : (n class : ℕ) → is_comment class ≡ true → open_after (closes_one class) (opens_one class) n ≡ suc n
+comment_open n class h = ap (λ c. open_after c (opens_one class) n) (comment_closes_none class h)
+    ∙ ap (λ o. open_after false o n) (comment_opens_none class h)
 
 -- where fewer are open, no line ends if none does with more
 fewer_step : (n : ℕ) (p : Piece) (ps : List Piece) → has_break (suc (suc n)) (p ∷ ps) ≡ false
@@ -73,7 +73,7 @@ fewer_step n p ps e others =
     let parts = neither (breaks p) _ e in
     both_false (breaks p) _ parts.0 (go (closes_one p.class) (opens_one p.class) parts.1)
   where
-    go : (c o : Bool) → has_break (open_behind c o (suc n)) ps ≡ false → has_break (open_behind c o n) ps ≡ false
+    go : (c o : Bool) → has_break (open_after c o (suc n)) ps ≡ false → has_break (open_after c o n) ps ≡ false
     go true o h = others n h
     go false true h = others (suc (suc n)) h
     go false false h = others (suc n) h
@@ -94,7 +94,7 @@ in_one_line (p ∷ ps) e = and_none (not (closes_one p.class)) (has_break 1 (p �
 
 -- so is one that opens in another
 pub opens_in_one_line : (n : ℕ) (closes opens : Bool) (ps : List Piece) → (opens ≡ true → closes ≡ false)
-    → has_break (open_behind closes opens n) ps ≡ false → opens ≡ true → has_lines ps ≡ false
+    → has_break (open_after closes opens n) ps ≡ false → opens ≡ true → has_lines ps ≡ false
 opens_in_one_line n true true ps k e h = absurd (true≢false (k h))
 opens_in_one_line n false true ps k e h = in_one_line ps (one_open (suc n) ps e)
 opens_in_one_line n closes false ps k e h = absurd (true≢false (sym h))

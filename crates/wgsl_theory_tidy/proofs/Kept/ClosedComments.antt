@@ -11,7 +11,7 @@ pub data Closed : ℕ → List ℕ → Type 0 where
   closed_line : (xs : List ℕ) → OnLine xs → trimmed xs ≡ xs → Closed LineComment (47 ∷ (47 ∷ xs))
   closed_block : (xs : List ℕ) → IsBody true 0 xs → Closed BlockComment (47 ∷ (42 ∷ xs))
 
--- a block comment that is not closed, behind which the text ends
+-- a block comment that is not closed, after which the text ends
 pub data Unclosed : ℕ → List ℕ → Type 0 where
   unclosed : (xs : List ℕ) → IsBody false 0 xs → Unclosed OpenComment (47 ∷ (42 ∷ xs))
 

@@ -1,4 +1,4 @@
--- In the laid-out text of a module a closing bracket that begins a line stands as deep as the line
+-- In the laid-out text of a module a closing bracket that begins a line is as deep as the line
 -- of its opening bracket.
 use Rattle.std.proofs.Common.{◌≡◌, ℕ, Bool, refl, sym, subst, ◌∙◌, List, [], ◌∷◌, ◌++◌, map, append-nil, Some}
 use Rattle.grammar.specs.Tokens.{Token}
@@ -19,7 +19,7 @@ use Rattle.wgsl_theory_tidy.proofs.Kept.ClosedComments.{AllClosed}
 use Rattle.wgsl_theory_tidy.proofs.Kept.Trails.{trail, last_trail}
 use Rattle.wgsl_theory_tidy.proofs.Kept.Parted.{token_again}
 use Rattle.wgsl_theory_tidy.proofs.Kept.LaidTokens.{no_comment}
-use Rattle.wgsl_theory_tidy.proofs.Kept.LaidText.{has_characters, behind_parts}
+use Rattle.wgsl_theory_tidy.proofs.Kept.LaidText.{has_characters, after_parts}
 use Rattle.wgsl_theory_tidy.proofs.Kept.NestedTokens.{effect, opened_after, Leads, none_left, one_more, nested_tokens}
 use Rattle.wgsl_theory_tidy.proofs.Kept.AlignedComments.{AlignedAfter}
 use Rattle.wgsl_theory_tidy.proofs.Kept.AlignedGaps.{Stands, at_start}
@@ -62,7 +62,7 @@ aligned layout _ _ _ (reads_token trivia w rest k ks ps p i r) marks h spot l ls
     let again : (at : Spot) → IsToken k w (laid_from layout (after_token layout at k.class w t.1 ps) ps) =
     λ at. token_again at.state k (operand_follows ps) w rest
     (laid_from layout (after_token layout at k.class w t.1 ps) ps) i
-    (λ d. behind_parts layout rest ks ps r (after_token layout at k.class w t.1 ps) w refl d) in
+    (λ d. after_parts layout rest ks ps r (after_token layout at k.class w t.1 ps) w refl d) in
     subst (λ all. AlignedAfter spot.last l ls (laid_from layout spot all))
     (sym (t.3 (λ n. token_piece k w n ∷ ps)))
     (trail_over layout k w t.1 ps t.0 t.2 marks ls

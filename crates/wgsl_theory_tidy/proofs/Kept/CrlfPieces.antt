@@ -64,7 +64,7 @@ ends_same c (d ∷ ds) e h =
 
 -- ---- the comments of a text
 
--- what stands after the comments
+-- what is after the comments
 abbrev Changed : (ℕ → List Piece) → (ℕ → List Piece) → Type 0
 Changed after before = (n : ℕ) → after n ≡ map crlf_piece (before n)
 

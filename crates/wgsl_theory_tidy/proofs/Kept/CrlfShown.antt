@@ -1,4 +1,4 @@
--- Pieces with CR LF in place of each LF are laid out as before: a block comment is written without
+-- Pieces with CR LF in place of each LF are formatted as before: a block comment is written without
 -- CR before LF, and no other piece has a line end.
 use Rattle.std.proofs.Common.{◌≡◌, ℕ, zero, suc, ◌==◌, ◌&&◌, ◌||◌, not, Bool, true, false, cond, if◌then◌else◌, refl, sym, ap, subst, ◌∙◌, List, [], ◌∷◌, ◌++◌, map}
 use Rattle.std.proofs.lemmas.Bool.{eqb-true}
@@ -9,9 +9,9 @@ use Rattle.wgsl_model_tidy.specs.Roles.{Role, begins_operand, closes, role_of}
 use Rattle.wgsl_model_tidy.specs.Joints.{joint}
 use Rattle.wgsl_model_tidy.specs.Layout.{Layout, column_after, line_fits}
 use Rattle.wgsl_model_tidy.specs.Shown.{without_returns, block_shown, shown}
-use Rattle.wgsl_model_tidy.specs.Open.{Style, together, as_written, item_by_item, LayoutState, enclosing, role_in, behind_token}
+use Rattle.wgsl_model_tidy.specs.Open.{Style, together, as_written, item_by_item, LayoutState, enclosing, role_in, after_token}
 use Rattle.wgsl_model_tidy.specs.Formatted.{with_crlf}
-use Rattle.wgsl_model_tidy.specs.LaidOut.{token, Gap, Spot, is_comment, is_token, is_line, operand_follows, next_role, is_followed, gap_before_comment, gap_before_token, gap_before, breaks, closes_one, opens_one, has_break, has_lines, ends_bracket, has_several, may_break, style_of, gap_text, depth_behind, in_line_of, comment_last, leads, piece_text, behind_piece, behind_first, laid_from}
+use Rattle.wgsl_model_tidy.specs.LaidOut.{token, Gap, Spot, is_comment, is_token, is_line, operand_follows, next_role, is_followed, gap_before_comment, gap_before_token, gap_before, breaks, closes_one, opens_one, has_break, has_lines, ends_bracket, has_several, may_break, style_of, gap_text, depth_after, in_line_of, comment_last, leads, piece_text, after_piece, spot_after_first, laid_from}
 use Rattle.wgsl_theory_tidy.proofs.Kept.TextFronts.{by_test}
 use Rattle.wgsl_theory_tidy.proofs.Kept.CrlfPieces.{crlf_piece}
 
@@ -106,23 +106,23 @@ crlf_gap spot p ps =
 -- the spot after it, by its characters
 abbrev spot_by : Layout → Spot → Gap → Role → Piece → Style → List ℕ → Spot
 spot_by layout spot gap right p style text =
-    let depth = depth_behind gap spot.state.line in
+    let depth = depth_after gap spot.state.line in
     let column = column_after layout spot.column (gap_text layout gap ++ text) in
     if is_comment p.class then record {
       state = in_line_of spot.state depth;
       last = comment_last p.class (leads gap spot.last spot.state.last);
       column = column;
     }
-    else record { state = behind_token spot.state depth p.class right style; last = token; column = column }
+    else record { state = after_token spot.state depth p.class right style; last = token; column = column }
 
 crlf_after : (layout : Layout) (spot : Spot) (p : Piece) (ps : List Piece) → IsSame p → (style : Style)
-    → behind_first layout spot (crlf_piece p) (map crlf_piece ps) style ≡ behind_first layout spot p ps style
+    → spot_after_first layout spot (crlf_piece p) (map crlf_piece ps) style ≡ spot_after_first layout spot p ps style
 crlf_after layout spot p ps h style =
     let right = next_role spot.state (p ∷ ps) in
     let gap = gap_before spot right p ps in
-    ap (λ r. behind_piece layout spot (gap_before spot (next_role spot.state (map crlf_piece (p ∷ ps)))
+    ap (λ r. after_piece layout spot (gap_before spot (next_role spot.state (map crlf_piece (p ∷ ps)))
     (crlf_piece p) (map crlf_piece ps)) r (crlf_piece p) style) (crlf_next spot.state (p ∷ ps))
-    ∙ ap (λ g. behind_piece layout spot g right (crlf_piece p) style) (crlf_gap spot p ps)
+    ∙ ap (λ g. after_piece layout spot g right (crlf_piece p) style) (crlf_gap spot p ps)
     ∙ ap (spot_by layout spot gap right p style) (h _ _)
 
 -- how a bracket is written, by what is in it
@@ -166,8 +166,8 @@ laid_same layout (p ∷ ps) h spot = one (laid_same layout ps h.1)
     one : ((s : Spot) → laid_from layout s qs ≡ laid_from layout s ps)
         → laid_from layout spot (q ∷ qs) ≡ laid_from layout spot (p ∷ ps)
     one others =
-        let after = behind_first layout spot p ps in
-        let new_after = behind_first layout spot q qs in
+        let after = spot_after_first layout spot p ps in
+        let new_after = spot_after_first layout spot q qs in
         let style = style_of_old (after together) (laid_from layout (after together) ps) in
         let chosen : style_of_new (new_after together) (laid_from layout (new_after together) qs) ≡ style =
         ap (λ s. style_of_new s (laid_from layout s qs)) (crlf_after layout spot p ps h.0 together)

@@ -9,7 +9,7 @@ use Rattle.wgsl_model.specs.Tokens.Pattern.{spells, after_spelling, after_longes
 use Rattle.wgsl_model.specs.Tokens.Raw.{Raw.none_left, Raw.token, front, kind_of_spelling, spelled, raw_at, raw}
 use Rattle.wgsl_model.specs.Tokens.Spelling.{spelling}
 use Rattle.wgsl_model.specs.Tokens.Trivia.{outside, after_trivia}
-use Rattle.wgsl_theory_grammar.proofs.Tokens.Bare.{IsBare, behind_trivia}
+use Rattle.wgsl_theory_grammar.proofs.Tokens.Bare.{IsBare, bare_after_trivia}
 use Rattle.wgsl_theory_printed.proofs.Spelling.Cut.{longest_spelling, found}
 use Rattle.wgsl_theory_printed.proofs.Spelling.Fronts.{stands_alone}
 use Rattle.wgsl_theory_printed.proofs.Spelling.Split.{Each, differs}
@@ -18,7 +18,7 @@ use Rattle.wgsl_model_tidy.specs.Formatted.{with_crlf}
 use Rattle.wgsl_theory_tidy.proofs.Kept.Alone.{IsAlone, line_end_alone}
 use Rattle.wgsl_theory_templates.proofs.Reaching.Reach.{Role, Role.template_start, Role.template_end, role}
 use Rattle.wgsl_theory_templates.proofs.Lexed.LexedAlong.{along_role, Along}
-use Rattle.wgsl_theory_tidy.proofs.Kept.TokenTexts.{bare_solid, valued_from, none_behind}
+use Rattle.wgsl_theory_tidy.proofs.Kept.TokenTexts.{bare_solid, valued_from, none_after}
 use Rattle.wgsl_theory_tidy.proofs.Kept.CrlfTrivia.{crlf_append, crlf_other, over_crlf}
 
 -- ---- characters of a spelling
@@ -160,7 +160,7 @@ pub record CrlfToken (text from after : List ℕ) (k : Kind) : Type 0 where
 
 pub raw_crlf : (text from after : List ℕ) (k : Kind) → raw text ≡ token k from after → CrlfToken text from after k
 raw_crlf text from after k e =
-    let s = same_at (after_trivia outside text) from after k (behind_trivia outside text) e in
+    let s = same_at (after_trivia outside text) from after k (bare_after_trivia outside text) e in
     record {
       is_token = ap raw_at (over_crlf outside text tt)
           ∙ subst (λ xs. raw_at (with_crlf (after_trivia outside text))
@@ -169,7 +169,7 @@ raw_crlf text from after k e =
     }
 
 pub none_crlf : (text : List ℕ) → raw text ≡ none_left → raw (with_crlf text) ≡ none_left
-none_crlf text e = ap raw_at (over_crlf outside text tt ∙ ap with_crlf (none_behind text e))
+none_crlf text e = ap raw_at (over_crlf outside text tt ∙ ap with_crlf (none_after text e))
 
 -- ---- all tokens
 

@@ -1,4 +1,4 @@
--- How the gaps and the comments of a laid-out text are read: what stands behind them, and how many
+-- How the gaps and the comments of a laid-out text are read: what is after them, and how many
 -- line ends a gap has.
 use Rattle.std.proofs.Common.{◌≡◌, ℕ, ◌+◌, true, false, refl, ap, ◌∙◌, List, [], ◌∷◌, ◌++◌, arith}
 use Rattle.wgsl_model.specs.Tokens.ClassTable.{LineComment, BlockComment}
@@ -60,7 +60,7 @@ indentation_counted : (b : ℕ → List Piece) (n : ℕ) (layout : Layout) (dept
 indentation_counted b n layout depth r = indent_counted b n (indentation layout depth) r
     (indentation_indent layout depth)
 
--- a gap counts as so many line ends
+-- a gap counts as a number of line ends
 pub gap_counted : (layout : Layout) (b : ℕ → List Piece) (g : Gap) (r : List ℕ)
     → comments b outside 0 (gap_text layout g ++ r) ≡ comments b outside (gap_ends g) r
 gap_counted layout b closed r = refl
@@ -84,7 +84,7 @@ block_passed : (text rest : List ℕ) → after_trivia (in_block 0) text ≡ res
 unfolding after_trivia
 block_passed text rest h = h
 
--- a comment that ends is one piece, and behind it nothing is left of it; behind a line comment the
+-- a comment that ends is one piece, and after it nothing is left of it; after a line comment the
 -- line ends
 pub closed_counted : (class : ℕ) (text : List ℕ) → Closed class text
     → (b : ℕ → List Piece) (n : ℕ) (r : List ℕ) → (class ≡ LineComment → AtLineEnd r)

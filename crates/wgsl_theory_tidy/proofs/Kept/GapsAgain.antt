@@ -5,7 +5,7 @@ use Rattle.wgsl_model.specs.Tokens.ClassTable.{LineComment}
 use Rattle.wgsl_model_tidy.specs.Roles.{Role, beginning, opening, template_start, is}
 use Rattle.wgsl_model_tidy.specs.Joints.{Joint, line, nothing, space, nothing_or_line, space_or_line, joint}
 use Rattle.wgsl_model_tidy.specs.Open.{Enclosing}
-use Rattle.wgsl_model_tidy.specs.LaidOut.{Gap, closed, blank, broken, Last, token, line_comment, block_comment, leading_comment, open_comment, kept_gap, joint_gap, behind_leading, token_gap, comment_gap, comment_behind}
+use Rattle.wgsl_model_tidy.specs.LaidOut.{Gap, closed, blank, broken, Last, token, line_comment, block_comment, leading_comment, open_comment, kept_gap, joint_gap, after_leading, token_gap, comment_gap, comment_after}
 use Rattle.wgsl_theory_tidy.proofs.Kept.Gaps.{gap_ends}
 use Rattle.wgsl_theory_tidy.proofs.Kept.Settled.{settled_enclosing}
 use Rattle.wgsl_theory_tidy.proofs.Kept.SettledJoints.{settled_joint, Settles, same, spaced, closed_up, token_settles, comment_settles, leading_same}
@@ -74,7 +74,7 @@ token_again inside token left right stays depth n = begun_again (is left beginni
     (token_settles right _ _ (settled_joint inside left right)) stays depth n
 token_again inside line_comment left right stays depth n = break_again stays depth n
 token_again inside leading_comment left right stays depth n =
-    let j = behind_leading (joint inside left right) right in
+    let j = after_leading (joint inside left right) right in
     ap (λ k. joint_gap k (gap_ends (joint_gap j n (break_for stays depth n)))
     (break_for stays depth (gap_ends (joint_gap j n (break_for stays depth n)))))
     (leading_same right _ _ (settled_joint inside left right))
@@ -87,9 +87,9 @@ token_again inside open_comment left right stays depth n = joint_again _ _
 -- a comment after a token, where it belongs to the next token again, or no more
 own_again : (class : ℕ) (left : Role) (own own' : Bool) (stays : Bool) (depth n : ℕ)
     → (own' ≡ true → own ≡ true)
-    → comment_behind class left own' (gap_ends (comment_behind class left own n (break_for stays depth n)))
-    (break_for stays depth (gap_ends (comment_behind class left own n (break_for stays depth n))))
-    ≡ comment_behind class left own n (break_for stays depth n)
+    → comment_after class left own' (gap_ends (comment_after class left own n (break_for stays depth n)))
+    (break_for stays depth (gap_ends (comment_after class left own n (break_for stays depth n))))
+    ≡ comment_after class left own n (break_for stays depth n)
 own_again class left own own' stays depth n h = go (is left beginning)
     ((is left opening || is left template_start) && not (class == LineComment)) own own' h
   where

@@ -7,9 +7,9 @@ use Rattle.wgsl_model_tidy.specs.Joints.{line, joint}
 use Rattle.wgsl_model_tidy.specs.Layout.{Layout}
 use Rattle.wgsl_model_tidy.specs.Open.{item_by_item, LayoutState, Enclosing, item_lines, enclosing, between_items, depth_of, comment_depth, role_in}
 use Rattle.wgsl_model_tidy.specs.LaidOut.{Gap, closed, broken, Last, token, Spot, joint_gap, token_gap, comment_gap, line_end, is_token, is_line, owned, is_followed, gap_before, gap_text, piece_text, breaks, closes_one, has_break, has_lines, ends_bracket, has_several, is_comment, next_role, laid_from, operand_follows}
-use Rattle.wgsl_theory_tidy.proofs.Laid.{behind_token_at}
+use Rattle.wgsl_theory_tidy.proofs.Laid.{after_token_at}
 use Rattle.wgsl_theory_tidy.proofs.Kept.Gaps.{gap_ends}
-use Rattle.wgsl_theory_tidy.proofs.Kept.Relaid.{after_first, behind_ends, relaid}
+use Rattle.wgsl_theory_tidy.proofs.Kept.Relaid.{after_first, after_ends, relaid}
 use Rattle.wgsl_theory_tidy.proofs.Kept.PieceSpots.{comment_gap_before, token_gap_before, token_next}
 use Rattle.wgsl_theory_tidy.proofs.Kept.BracketRoles.{closes_same, is_brace, no_brace, opens_later, opens_last, opens_enclosing, comment_closes_none}
 use Rattle.wgsl_theory_tidy.proofs.Kept.OwnLines.{some_ends}
@@ -85,16 +85,16 @@ follows_so state (p ∷ ps) e calm = follows_step state p ps e calm (λ f c. fol
 abbrev pub IsBroken : Gap → Type 0
 IsBroken gap = (empty : Bool) × (depth : ℕ) × (gap ≡ broken empty depth)
 
-line_behind_opening : (left right : Role) → opens_bracket left ≡ true → joint item_lines left right ≡ line
-line_behind_opening opening right h = refl
-line_behind_opening template_start right h = refl
-line_behind_opening left right h = absurd (true≢false (sym h))
+line_after_opening : (left right : Role) → opens_bracket left ≡ true → joint item_lines left right ≡ line
+line_after_opening opening right h = refl
+line_after_opening template_start right h = refl
+line_after_opening left right h = absurd (true≢false (sym h))
 
 parted_token : (left right : Role) (n : ℕ) (break : Gap) → opens_bracket left ≡ true
     → token_gap item_lines token left right n break ≡ break
 parted_token left right n break h =
     ap (λ b. cond b closed (joint_gap (joint item_lines left right) n break)) (opens_later left h)
-    ∙ ap (λ j. joint_gap j n break) (line_behind_opening left right h)
+    ∙ ap (λ j. joint_gap j n break) (line_after_opening left right h)
 
 before_token : (spot : Spot) (p : Piece) (ps : List Piece) → IsParted spot
     → is_comment p.class ≡ false → IsBroken (gap_before spot (next_role spot.state (p ∷ ps)) p ps)
@@ -117,7 +117,7 @@ owned_there : (spot : Spot) (right : Role) (ps : List Piece) → IsParted spot �
 owned_there spot right ps i c f =
     let left = spot.state.last in
     let ends : is_line (joint (enclosing spot.state.opened) left right) ≡ true = ap (λ (x : Enclosing).
-    is_line (joint x left right)) i.lines ∙ ap is_line (line_behind_opening left right i.opens) in
+    is_line (joint x left right)) i.lines ∙ ap is_line (line_after_opening left right i.opens) in
     and_from (is_token spot.last) _ (ap is_token i.beside)
     (and_from _ (is_followed ps) (and_from _ (not (closes right)) ends (ap not c)) f)
 
@@ -167,7 +167,7 @@ item_lines_again layout spot [] i e calm = absurd (true≢false (sym e))
 item_lines_again layout spot (p ∷ ps) i e calm =
     let gap = gap_before spot (next_role spot.state (p ∷ ps)) p ps in
     and_from (not (closes_one p.class)) _ (several_opens p ps e)
-    (or_left (breaks (behind_ends p (gap_ends gap))) _
+    (or_left (breaks (after_ends p (gap_ends gap))) _
     (or_left (not (gap_ends gap == 0)) _ (broken_ends gap (first_gap spot p ps i e calm))))
 
 -- and the text begins with a line end
@@ -184,7 +184,7 @@ gap_begins layout gap rest b =
 
 -- after an opening bracket that is written item by item
 pub parted : (state : LayoutState) (depth class : ℕ) (right : Role) (column : ℕ)
-    → opens_bracket right ≡ true → IsParted (behind_token_at state depth class right column item_by_item)
+    → opens_bracket right ≡ true → IsParted (after_token_at state depth class right column item_by_item)
 parted state depth class right column h =
     record { lines = opens_enclosing state depth right item_by_item h; opens = opens_last state right h; beside = refl }
 
@@ -199,7 +199,7 @@ parted_begins layout spot (p ∷ ps) i e calm =
 
 pub items_begin : (layout : Layout) (state : LayoutState) (depth class : ℕ) (right : Role) (column : ℕ)
     (ps : List Piece) → opens_bracket right ≡ true → has_several ps ≡ true → has_lines ps ≡ false
-    → (more : List ℕ) × (laid_from layout (behind_token_at state depth class right column item_by_item) ps ≡ 10 ∷ more)
+    → (more : List ℕ) × (laid_from layout (after_token_at state depth class right column item_by_item) ps ≡ 10 ∷ more)
 items_begin layout state depth class right column ps h e calm = parted_begins layout
-    (behind_token_at state depth class right column item_by_item) ps
+    (after_token_at state depth class right column item_by_item) ps
     (parted state depth class right column h) e calm

@@ -1,4 +1,4 @@
--- One token stands at a place of a text.
+-- One token is at a place of a text.
 use Rattle.std.proofs.Common.{◌≡◌, ℕ, ◌==◌, true, false, refl, sym, ap, ap₂, ◌∙◌, List, [], ◌∷◌, ◌++◌, length, length-append, arith}
 use Rattle.std.proofs.lemmas.Bool.{true≢false}
 use Rattle.wgsl_model.specs.Tokens.ClassTable.{SymForwardSlash, SymDivisionEqual, TemplateArgsStart, TemplateArgsEnd}
@@ -21,7 +21,7 @@ no_comment k w rest (is_end r) = refl
 no_comment k w rest (is_slash r e) = refl
 no_comment k w rest (is_slash_equal r e) = refl
 
--- ---- a token stands where no blank space and no comment are left
+-- ---- a token is where no blank space and no comment are left
 
 start_here : (rest : List ℕ) → after_trivia outside (60 ∷ rest) ≡ 60 ∷ rest
 unfolding after_trivia
@@ -39,7 +39,7 @@ token_here k w rest (is_slash r e) = (cut_token (47 ∷ rest) (47 ∷ rest) rest
 token_here k w rest (is_slash_equal r e) =
     (cut_token (47 ∷ (61 ∷ rest)) (47 ∷ (61 ∷ rest)) rest (plain SymDivisionEqual) e).passed
 
--- ---- one token stands there
+-- ---- one token is there
 
 -- the `<` or the `>` of a template list, or the front token
 data Stood (k : Kind) (w rest : List ℕ) : Type 0 where
@@ -69,9 +69,9 @@ same_before (x ∷ xs) (y ∷ ys) zs e =
     let h : x ≡ y = cc in let i : xs ++ zs ≡ ys ++ zs = cc in
     ap₂ (λ (c : ℕ) (cs : List ℕ). c ∷ cs) h (same_before xs ys zs i)
 
--- texts behind the same character
-same_behind : (c : ℕ) (v w : List ℕ) (r u : List ℕ) → v ≡ c ∷ [] → w ≡ c ∷ [] → v ++ r ≡ w ++ u → (v ≡ w) × (r ≡ u)
-same_behind c v w r u e f q =
+-- texts after the same character
+same_after : (c : ℕ) (v w : List ℕ) (r u : List ℕ) → v ≡ c ∷ [] → w ≡ c ∷ [] → v ++ r ≡ w ++ u → (v ≡ w) × (r ≡ u)
+same_after c v w r u e f q =
     let both : c ∷ r ≡ c ∷ u = ap (λ xs. xs ++ r) (sym e) ∙ q ∙ ap (λ xs. xs ++ u) f in (e ∙ sym f, cc)
 
 pub same_token : (k : Kind) (v r w u : List ℕ) → IsToken k v r → IsToken k w u → v ++ r ≡ w ++ u → (v ≡ w) × (r ≡ u)
@@ -82,8 +82,8 @@ same_token k v r w u i j q = go (stood k v r i) (stood k w u j)
         let both : token k (v ++ r) r ≡ token k (w ++ u) u = sym e ∙ ap raw q ∙ f in
         let rests : r ≡ u = cc in
         (same_before v w u (ap (λ xs. v ++ xs) (sym rests) ∙ q), rests)
-    go (stood_start e f) (stood_start g h) = same_behind 60 v w r u f h q
-    go (stood_end e f) (stood_end g h) = same_behind 62 v w r u f h q
+    go (stood_start e f) (stood_start g h) = same_after 60 v w r u f h q
+    go (stood_end e f) (stood_end g h) = same_after 62 v w r u f h q
     go (stood_front m e) (stood_start g h) = absurd (unmarked k TemplateArgsStart m g refl)
     go (stood_front m e) (stood_end g h) = absurd (unmarked k TemplateArgsEnd m g refl)
     go (stood_start e f) (stood_front n g) = absurd (unmarked k TemplateArgsStart n e refl)

@@ -1,4 +1,4 @@
--- Comments laid out before a token, and behind the last token: what they are read as.
+-- Comments formatted before a token, and after the last token: what they are read as.
 use Rattle.std.proofs.Common.{◌≡◌, ℕ, Bool, true, false, cond, refl, sym, ap, subst, ◌∙◌, List, [], ◌∷◌, ◌++◌, append_assoc, append-nil}
 use Rattle.wgsl_model.specs.Tokens.ClassTable.{LineComment}
 use Rattle.wgsl_model.specs.Tokens.Kind.{Kind}
@@ -6,10 +6,10 @@ use Rattle.wgsl_model.specs.Tokens.Trivia.{outside, after_trivia}
 use Rattle.wgsl_model_tidy.specs.Pieces.{Piece, comments}
 use Rattle.wgsl_model_tidy.specs.Roles.{Role, beginning, is}
 use Rattle.wgsl_model_tidy.specs.Layout.{Layout, column_after}
-use Rattle.wgsl_model_tidy.specs.Open.{LayoutState, enclosing, between_items, depth_of, comment_depth, role_in, last_behind}
-use Rattle.wgsl_model_tidy.specs.LaidOut.{Gap, broken, Last, token, line_comment, block_comment, leading_comment, open_comment, Spot, is_comment, next_role, owned, line_end, gap_before_comment, gap_before_token, gap_text, token_gap, comment_gap, depth_behind, piece_text, leads, comment_last, laid_from, ending, operand_follows}
+use Rattle.wgsl_model_tidy.specs.Open.{LayoutState, enclosing, between_items, depth_of, comment_depth, role_in, last_after}
+use Rattle.wgsl_model_tidy.specs.LaidOut.{Gap, broken, Last, token, line_comment, block_comment, leading_comment, open_comment, Spot, is_comment, next_role, owned, line_end, gap_before_comment, gap_before_token, gap_text, token_gap, comment_gap, depth_after, piece_text, leads, comment_last, laid_from, ending, operand_follows}
 use Rattle.wgsl_theory_tidy.proofs.Comments.{piece, AtLineEnd, nothing_left}
-use Rattle.wgsl_theory_tidy.proofs.Laid.{behind_comment_at, behind_token_at, style_at}
+use Rattle.wgsl_theory_tidy.proofs.Laid.{after_comment_at, after_token_at, style_at}
 use Rattle.wgsl_theory_tidy.proofs.Kept.Readings.{token_piece}
 use Rattle.wgsl_theory_tidy.proofs.Kept.ClosedComments.{Closed, Unclosed, unclosed, AllClosed, AllClosedButLast, no_more, one_more, last_open}
 use Rattle.wgsl_theory_tidy.proofs.Kept.Gaps.{gap_ends, gap_passed, gap_counted, closed_counted, closed_passed, unclosed_counted, unclosed_passed, closed_is_comment, unclosed_is_comment, closed_begins, unclosed_begins}
@@ -18,26 +18,26 @@ use Rattle.wgsl_theory_tidy.proofs.Kept.Relaid.{relaid}
 use Rattle.wgsl_theory_tidy.proofs.Kept.NeatTexts.{NeatWord}
 use Rattle.wgsl_theory_tidy.proofs.Kept.NeatPieces.{NeatAt, token_gap_neat, comment_gap_neat, closed_neat, unclosed_neat, ending_neat}
 
--- ---- one piece laid out
+-- ---- one piece formatted
 
--- the spot behind a token, and behind a comment; the first token from there on does so
-abbrev spot_behind_token : Layout → Spot → ℕ → List ℕ → ℕ → List Piece → Spot
-spot_behind_token layout spot class w n ps =
+-- the spot after a token, and after a comment; the first token from there on does so
+abbrev spot_after_token : Layout → Spot → ℕ → List ℕ → ℕ → List Piece → Spot
+spot_after_token layout spot class w n ps =
     let right = role_in spot.state class (operand_follows ps) in
     let gap = gap_before_token spot right n in
-    let depth = depth_behind gap spot.state.line in
+    let depth = depth_after gap spot.state.line in
     let column = column_after layout spot.column (gap_text layout gap ++ w) in
-    behind_token_at spot.state depth class right column (style_at layout spot.state depth class right column ps)
+    after_token_at spot.state depth class right column (style_at layout spot.state depth class right column ps)
 
 -- a comment as it is written there
 abbrev comment_text : Layout → Spot → Role → ℕ → Bool → List ℕ → ℕ → List ℕ
 comment_text layout spot right class own text n = piece_text layout spot
     (gap_before_comment spot right class own n) (piece class text n)
 
-abbrev spot_behind_comment : Layout → Spot → Role → ℕ → Bool → List ℕ → ℕ → Spot
-spot_behind_comment layout spot right class own text n =
+abbrev spot_after_comment : Layout → Spot → Role → ℕ → Bool → List ℕ → ℕ → Spot
+spot_after_comment layout spot right class own text n =
     let gap = gap_before_comment spot right class own n in
-    behind_comment_at spot.state (depth_behind gap spot.state.line)
+    after_comment_at spot.state (depth_after gap spot.state.line)
     (comment_last class (leads gap spot.last spot.state.last))
     (column_after layout spot.column (gap_text layout gap ++ comment_text layout spot right class own text n))
 
@@ -45,14 +45,14 @@ token_laid : (layout : Layout) (spot : Spot) (class : ℕ) (w : List ℕ) (n : �
     → is_comment class ≡ false
     → laid_from layout spot (piece class w n ∷ ps)
     ≡ gap_text layout (gap_before_token spot (role_in spot.state class (operand_follows ps)) n)
-    ++ (w ++ laid_from layout (spot_behind_token layout spot class w n ps) ps)
+    ++ (w ++ laid_from layout (spot_after_token layout spot class w n ps) ps)
 token_laid layout spot class w n ps h = shown ∙ ap with (token_text layout spot gap class w n h)
   where
     gap : Gap
     gap = gap_before_token spot (role_in spot.state class (operand_follows ps)) n
 
     with : List ℕ → List ℕ
-    with text = gap_text layout gap ++ (text ++ laid_from layout (spot_behind_token layout spot class text n ps) ps)
+    with text = gap_text layout gap ++ (text ++ laid_from layout (spot_after_token layout spot class text n ps) ps)
 
     shown : laid_from layout spot (piece class w n ∷ ps) ≡ with (piece_text layout spot gap (piece class w n))
     shown = rw h refl
@@ -61,14 +61,14 @@ token_relaid : (layout : Layout) (spot : Spot) (class : ℕ) (w : List ℕ) (n :
     → is_comment class ≡ false
     → relaid layout spot (piece class w n ∷ ps)
     ≡ piece class w (gap_ends (gap_before_token spot (role_in spot.state class (operand_follows ps)) n))
-    ∷ relaid layout (spot_behind_token layout spot class w n ps) ps
+    ∷ relaid layout (spot_after_token layout spot class w n ps) ps
 token_relaid layout spot class w n ps h = shown ∙ ap with (token_text layout spot gap class w n h)
   where
     gap : Gap
     gap = gap_before_token spot (role_in spot.state class (operand_follows ps)) n
 
     with : List ℕ → List Piece
-    with text = piece class text (gap_ends gap) ∷ relaid layout (spot_behind_token layout spot class text n ps) ps
+    with text = piece class text (gap_ends gap) ∷ relaid layout (spot_after_token layout spot class text n ps) ps
 
     shown : relaid layout spot (piece class w n ∷ ps) ≡ with (piece_text layout spot gap (piece class w n))
     shown = rw h refl
@@ -78,7 +78,7 @@ comment_laid : (layout : Layout) (spot : Spot) (right : Role) (class : ℕ) (tex
     → laid_from layout spot (piece class text n ∷ ps)
     ≡ gap_text layout (gap_before_comment spot right class (owned spot right ps) n)
     ++ (comment_text layout spot right class (owned spot right ps) text n
-    ++ laid_from layout (spot_behind_comment layout spot right class (owned spot right ps) text n) ps)
+    ++ laid_from layout (spot_after_comment layout spot right class (owned spot right ps) text n) ps)
 comment_laid layout spot right class text n ps h e = rw (h, e) refl
 
 comment_relaid : (layout : Layout) (spot : Spot) (right : Role) (class : ℕ) (text : List ℕ) (n : ℕ)
@@ -86,10 +86,10 @@ comment_relaid : (layout : Layout) (spot : Spot) (right : Role) (class : ℕ) (t
     → relaid layout spot (piece class text n ∷ ps)
     ≡ piece class (comment_text layout spot right class (owned spot right ps) text n)
     (gap_ends (gap_before_comment spot right class (owned spot right ps) n))
-    ∷ relaid layout (spot_behind_comment layout spot right class (owned spot right ps) text n) ps
+    ∷ relaid layout (spot_after_comment layout spot right class (owned spot right ps) text n) ps
 comment_relaid layout spot right class text n ps h e = rw (h, e) refl
 
--- ---- behind a line comment the line ends
+-- ---- after a line comment the line ends
 
 broken_ends : (layout : Layout) (empty : Bool) (depth : ℕ) (r : List ℕ)
     → AtLineEnd (gap_text layout (broken empty depth) ++ r)
@@ -128,7 +128,7 @@ token_next : (s : LayoutState) (class : ℕ) (w : List ℕ) (n : ℕ) (ps : List
     → is_comment class ≡ false → next_role s (piece class w n ∷ ps) ≡ role_in s class (operand_follows ps)
 token_next s class w n ps h = rw h refl
 
--- what stands before a token that does so begins with the gap before the token, or with that before
+-- what is before a token that does so begins with the gap before the token, or with that before
 -- a comment and with the comment
 pub data TrailFront (layout : Layout) (spot : Spot) (cs : List Piece) (right : Role) (m : ℕ)
     (trivia : List ℕ) : Type 0 where
@@ -138,34 +138,34 @@ pub data TrailFront (layout : Layout) (spot : Spot) (cs : List Piece) (right : R
       → trivia ≡ gap_text layout (gap_before_comment spot right class own n) ++ (47 ∷ more)
       → TrailFront layout spot cs right m trivia
 
--- Comments and a token laid out behind a spot, and others behind them: what stands before the
--- token, and the spot behind it. That is passed over before whatever follows, and read again it
+-- Comments and a token formatted after a spot, and others after them: what is before the
+-- token, and the spot after it. That is passed over before whatever follows, and read again it
 -- gives the comments.
 pub record LaidTrail (layout : Layout) (spot : Spot) (cs : List Piece) (k : Kind) (w : List ℕ)
     (m : ℕ) (ps : List Piece) : Type 0 where
   pub trivia : List ℕ
-  pub behind : Spot
-  pub is_token : behind.last ≡ token
-  pub is_last : behind.state.last ≡ last_behind spot.state (role_in spot.state k.class (operand_follows ps))
-  pub whole : laid_from layout spot (cs ++ (token_piece k w m ∷ ps)) ≡ trivia ++ (w ++ laid_from layout behind ps)
+  pub following : Spot
+  pub is_token : following.last ≡ token
+  pub is_last : following.state.last ≡ last_after spot.state (role_in spot.state k.class (operand_follows ps))
+  pub whole : laid_from layout spot (cs ++ (token_piece k w m ∷ ps)) ≡ trivia ++ (w ++ laid_from layout following ps)
   pub passed : (r : List ℕ) → after_trivia outside (trivia ++ r) ≡ after_trivia outside r
-  pub again : comments (λ n. token_piece k w n ∷ relaid layout behind ps) outside 0 trivia
+  pub again : comments (λ n. token_piece k w n ∷ relaid layout following ps) outside 0 trivia
       ≡ relaid layout spot (cs ++ (token_piece k w m ∷ ps))
   pub front : TrailFront layout spot cs (role_in spot.state k.class (operand_follows ps)) m trivia
   pub at_line_end : spot.last ≡ line_comment → (r : List ℕ) → AtLineEnd (trivia ++ r)
   pub neat : (r : List ℕ) → NeatWord r → NeatAt spot.last spot.state.last (trivia ++ r)
 
--- no comment stands there
+-- no comment is there
 laid_token : (layout : Layout) (spot : Spot) (k : Kind) (w : List ℕ) (m : ℕ) (ps : List Piece)
     → is_comment k.class ≡ false → LaidTrail layout spot [] k w m ps
 laid_token layout spot k w m ps h =
     let right = role_in spot.state k.class (operand_follows ps) in
     let gap = gap_before_token spot right m in
-    let behind = spot_behind_token layout spot k.class w m ps in
-    let b : ℕ → List Piece = λ n. token_piece k w n ∷ relaid layout behind ps in
+    let following = spot_after_token layout spot k.class w m ps in
+    let b : ℕ → List Piece = λ n. token_piece k w n ∷ relaid layout following ps in
     record {
       trivia = gap_text layout gap;
-      behind = behind;
+      following = following;
       is_token = refl;
       is_last = refl;
       whole = token_laid layout spot k.class w m ps h;
@@ -188,7 +188,7 @@ laid_comment : (layout : Layout) (spot : Spot) (class : ℕ) (text : List ℕ) (
     (k : Kind) (w : List ℕ) (m : ℕ) (ps : List Piece)
     → Closed class text
     → next_role spot.state (cs ++ (token_piece k w m ∷ ps)) ≡ role_in spot.state k.class (operand_follows ps)
-    → LaidTrail layout (spot_behind_comment layout spot (role_in spot.state k.class (operand_follows ps)) class
+    → LaidTrail layout (spot_after_comment layout spot (role_in spot.state k.class (operand_follows ps)) class
     (owned spot (role_in spot.state k.class (operand_follows ps)) (cs ++ (token_piece k w m ∷ ps)))
     text n) cs k w m ps → LaidTrail layout spot (piece class text n ∷ cs) k w m ps
 laid_comment layout spot class text n cs k w m ps c e t =
@@ -196,7 +196,7 @@ laid_comment layout spot class text n cs k w m ps c e t =
     let all = cs ++ (token_piece k w m ∷ ps) in
     let gap = gap_before_comment spot right class (owned spot right all) n in
     let shown = comment_text layout spot right class (owned spot right all) text n in
-    let b : ℕ → List Piece = λ i. token_piece k w i ∷ relaid layout t.behind ps in
+    let b : ℕ → List Piece = λ i. token_piece k w i ∷ relaid layout t.following ps in
     let d : Closed class shown = closed_text layout spot gap class text n c in
     let is = closed_is_comment class shown d in
     let begins = closed_begins class shown d in
@@ -204,12 +204,12 @@ laid_comment layout spot class text n cs k w m ps c e t =
     λ r f. t.at_line_end (last_is_line class (leads gap spot.last spot.state.last) f) r in
     record {
       trivia = gap_text layout gap ++ (shown ++ t.trivia);
-      behind = t.behind;
+      following = t.following;
       is_token = t.is_token;
       is_last = t.is_last;
       whole = comment_laid layout spot right class text n all is e
           ∙ ap (λ xs. gap_text layout gap ++ (shown ++ xs)) t.whole
-          ∙ joined (gap_text layout gap) shown t.trivia (w ++ laid_from layout t.behind ps);
+          ∙ joined (gap_text layout gap) shown t.trivia (w ++ laid_from layout t.following ps);
       passed = λ r. ap (after_trivia outside) (sym (joined (gap_text layout gap) shown t.trivia r))
           ∙ gap_passed layout gap (shown ++ (t.trivia ++ r))
           ∙ closed_passed class shown d (t.trivia ++ r) (ends r) ∙ t.passed r;
@@ -233,11 +233,11 @@ laid_trail layout spot [] k w m ps h e = laid_token layout spot k w m ps e
 laid_trail layout spot (c ∷ cs) k w m ps h e =
     laid_comment layout spot c.class c.text c.line_ends cs k w m ps h.0
     (trail_next spot.state cs (token_piece k w m ∷ ps) h.1 ∙ token_next spot.state k.class w m ps e)
-    (laid_trail layout (spot_behind_comment layout spot (role_in spot.state k.class
+    (laid_trail layout (spot_after_comment layout spot (role_in spot.state k.class
     (operand_follows ps)) c.class (owned spot (role_in spot.state k.class (operand_follows ps))
     (cs ++ (token_piece k w m ∷ ps))) c.text c.line_ends) cs k w m ps h.1 e)
 
--- ---- comments behind the last token
+-- ---- comments after the last token
 
 -- the end of the text
 ending_passed : (last : Last) (left : Role) → after_trivia outside (ending last left) ≡ []
@@ -264,7 +264,7 @@ ending_again line_comment left = refl
 ending_again block_comment left = refl
 ending_again leading_comment left = refl
 
--- the text behind the last token begins with its end, or with the gap before a comment and with the
+-- the text after the last token begins with its end, or with the gap before a comment and with the
 -- comment
 pub data LastFront (layout : Layout) (spot : Spot) (cs : List Piece) : Type 0 where
   end_front : cs ≡ [] → laid_from layout spot cs ≡ ending spot.last spot.state.last → LastFront layout spot cs
@@ -272,7 +272,7 @@ pub data LastFront (layout : Layout) (spot : Spot) (cs : List Piece) : Type 0 wh
       ≡ gap_text layout (gap_before_comment spot beginning class own n) ++ (47 ∷ more)
       → LastFront layout spot cs
 
--- Comments laid out behind a spot at the end of a text: nothing is left of them, and read again
+-- Comments formatted after a spot at the end of a text: nothing is left of them, and read again
 -- they are the same.
 pub record LastLaid (layout : Layout) (spot : Spot) (cs : List Piece) : Type 0 where
   pub passed : after_trivia outside (laid_from layout spot cs) ≡ []
@@ -290,7 +290,7 @@ laid_end layout spot = record {
   neat = ending_neat spot.last spot.state.last;
 }
 
--- no token stands there
+-- no token is there
 last_next : (s : LayoutState) (cs : List Piece) → AllClosedButLast cs → next_role s cs ≡ beginning
 last_next s cs (no_more) = refl
 last_next s cs (one_more p ps c h) = rw (closed_is_comment p.class p.text c) (last_next s ps h)
@@ -299,7 +299,7 @@ last_next s cs (last_open p u) = rw (unclosed_is_comment p.class p.text u) refl
 -- one comment more
 last_comment : (layout : Layout) (spot : Spot) (class : ℕ) (text : List ℕ) (n : ℕ) (cs : List Piece)
     → Closed class text → next_role spot.state cs ≡ beginning
-    → LastLaid layout (spot_behind_comment layout spot beginning class (owned spot beginning cs) text n) cs
+    → LastLaid layout (spot_after_comment layout spot beginning class (owned spot beginning cs) text n) cs
     → LastLaid layout spot (piece class text n ∷ cs)
 last_comment layout spot class text n cs c e t =
     let gap = gap_before_comment spot beginning class (owned spot beginning cs) n in
@@ -308,7 +308,7 @@ last_comment layout spot class text n cs c e t =
     let d : Closed class shown = closed_text layout spot gap class text n c in
     let is = closed_is_comment class shown d in
     let begins = closed_begins class shown d in
-    let left = laid_from layout (spot_behind_comment layout spot beginning class (owned spot beginning cs) text n) cs in
+    let left = laid_from layout (spot_after_comment layout spot beginning class (owned spot beginning cs) text n) cs in
     let whole : laid_from layout spot (piece class text n ∷ cs) ≡ gap_text layout gap
     ++ (shown ++ left) = comment_laid layout spot beginning class text n cs is e in
     let ends : class ≡ LineComment → AtLineEnd left =
@@ -329,7 +329,7 @@ last_comment layout spot class text n cs c e t =
           (closed_neat class shown d (leads gap spot.last spot.state.last) spot.state.last left t.neat));
     }
 
--- nothing is written behind a comment that is not closed
+-- nothing is written after a comment that is not closed
 unclosed_end : (class : ℕ) (text : List ℕ) → Unclosed class text → (leading : Bool) (left : Role)
     → ending (comment_last class leading) left ≡ []
 unclosed_end class text (unclosed xs i) leading left = refl
@@ -365,5 +365,5 @@ pub last_laid : (layout : Layout) (spot : Spot) (cs : List Piece) → AllClosedB
 last_laid layout spot cs (no_more) = laid_end layout spot
 last_laid layout spot cs (one_more p ps c h) =
     last_comment layout spot p.class p.text p.line_ends ps c (last_next spot.state ps h) (last_laid layout
-    (spot_behind_comment layout spot beginning p.class (owned spot beginning ps) p.text p.line_ends) ps h)
+    (spot_after_comment layout spot beginning p.class (owned spot beginning ps) p.text p.line_ends) ps h)
 last_laid layout spot cs (last_open p u) = open_comment_last layout spot p.class p.text p.line_ends u

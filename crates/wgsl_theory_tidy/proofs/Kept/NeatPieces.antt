@@ -1,4 +1,4 @@
--- What is laid out after a piece makes a neat text: the gap before the next piece, a comment, and
+-- What is formatted after a piece makes a neat text: the gap before the next piece, a comment, and
 -- the end of the text.
 use Rattle.std.proofs.Common.{◌≡◌, ℕ, Bool, true, false, cond, refl, sym, subst, List, [], ◌∷◌, ◌++◌}
 use Rattle.wgsl_model.specs.Tokens.Trivia.{outside, in_line}

@@ -12,10 +12,10 @@ use Rattle.wgsl_theory_printed.proofs.Spelling.Split.{Each}
 use Rattle.wgsl_theory_printed.proofs.Spelling.WordCharacters.{spelled_word}
 use Rattle.wgsl_model_tidy.specs.Lines.{next_place}
 use Rattle.wgsl_model_tidy.specs.Roles.{template_end, beginning, at, attribute, is}
-use Rattle.wgsl_model_tidy.specs.Open.{LayoutState, role_in, last_behind}
+use Rattle.wgsl_model_tidy.specs.Open.{LayoutState, role_in, last_after}
 use Rattle.wgsl_model_tidy.specs.LaidOut.{token}
 use Rattle.wgsl_theory_tidy.proofs.Kept.Touching.{Shaped}
-use Rattle.wgsl_theory_tidy.proofs.Kept.Neighbours.{not_beginning, shaped_behind}
+use Rattle.wgsl_theory_tidy.proofs.Kept.Neighbours.{not_beginning, shaped_after}
 use Rattle.wgsl_theory_tidy.proofs.Kept.TokenRoles.{shaped}
 use Rattle.wgsl_theory_tidy.proofs.Kept.Readings.{IsToken, is_word, is_slash, is_slash_equal, is_start, is_end}
 use Rattle.wgsl_theory_tidy.proofs.Kept.TextFronts.{no_rest}
@@ -70,7 +70,7 @@ word_neat k w r (is_end rest) n = (refl, n)
 
 -- ---- after a token the text has begun
 
-end_role : (state : LayoutState) → is (last_behind state template_end) beginning ≡ false
+end_role : (state : LayoutState) → is (last_after state template_end) beginning ≡ false
 end_role state = go (is state.last at)
   where
     go : (b : Bool) → is (cond b attribute template_end) beginning ≡ false
@@ -78,18 +78,18 @@ end_role state = go (is state.last at)
     go false = refl
 
 has_begun : (state : LayoutState) (k : Kind) (before_operand : Bool) (w r : List ℕ) → IsToken k w r
-    → is (last_behind state (role_in state k.class before_operand)) beginning ≡ false
+    → is (last_after state (role_in state k.class before_operand)) beginning ≡ false
 has_begun state k before_operand w r t = go (shaped state k before_operand w r t)
   where
     go : Shaped (role_in state k.class before_operand) w ⊎ (k ≡ plain TemplateArgsEnd)
-        → is (last_behind state (role_in state k.class before_operand)) beginning ≡ false
-    go (inl h) = not_beginning (last_behind state (role_in state k.class before_operand)) w
-        (shaped_behind state (role_in state k.class before_operand) w h)
+        → is (last_after state (role_in state k.class before_operand)) beginning ≡ false
+    go (inl h) = not_beginning (last_after state (role_in state k.class before_operand)) w
+        (shaped_after state (role_in state k.class before_operand) w h)
     go (inr e) = subst
-        (λ (j : Kind). is (last_behind state (role_in state j.class before_operand)) beginning ≡ false)
+        (λ (j : Kind). is (last_after state (role_in state j.class before_operand)) beginning ≡ false)
         (sym e) (end_role state)
 
 pub token_neat : (state : LayoutState) (k : Kind) (before_operand : Bool) (w r : List ℕ) → IsToken k w r
-    → NeatAt token (last_behind state (role_in state k.class before_operand)) r → NeatWord (w ++ r)
+    → NeatAt token (last_after state (role_in state k.class before_operand)) r → NeatWord (w ++ r)
 token_neat state k before_operand w r t n = word_neat k w r t
     (subst (λ b. Neat outside (cond b start solid) r) (has_begun state k before_operand w r t) n)

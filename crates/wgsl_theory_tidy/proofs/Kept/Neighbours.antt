@@ -1,4 +1,4 @@
--- What a token is to the characters behind it: none of those that may stand there makes a longer
+-- What a token is to the characters after it: none of those that may be there makes a longer
 -- token or a comment with it.
 use Rattle.std.proofs.Common.{◌≡◌, ℕ, ◌==◌, ◌&&◌, ◌||◌, Bool, true, false, cond, not, refl, sym, subst, ◌∙◌, List, [], ◌∷◌, lit<}
 use Rattle.std.proofs.lemmas.Bool.{true≢false, and_parts, or_left, eqb-true}
@@ -11,11 +11,11 @@ use Rattle.wgsl_theory_printed.proofs.Spelling.Signs.{begins_name, begins_number
 use Rattle.wgsl_theory_printed.proofs.Spelling.Split.{goes_on_with}
 use Rattle.wgsl_model_tidy.specs.Roles.{Role, opening, closing, template_start, block_start, block_end, comma, semicolon, colon, else_word, at, beginning, item_end, attribute, is, is_tight, opens_bracket, closes_bracket}
 use Rattle.wgsl_model_tidy.specs.Joints.{Joint, line, nothing, space, nothing_or_line, space_or_line, closed_up, continues_line, joint_in_line, joint_in_lines, ended, joint}
-use Rattle.wgsl_model_tidy.specs.Open.{LayoutState, Enclosing, no_bracket, one_line, own_lines, item_lines, in_arguments, in_members, in_brackets, last_behind}
+use Rattle.wgsl_model_tidy.specs.Open.{LayoutState, Enclosing, no_bracket, one_line, own_lines, item_lines, in_arguments, in_members, in_brackets, last_after}
 use Rattle.wgsl_theory_tidy.proofs.Kept.Alone.{IsAlone, alone_ends, alone_before, space_alone, line_end_alone, brace_right_alone}
 use Rattle.wgsl_theory_tidy.proofs.Kept.Touching.{less_no_name, slash_no_name, at_one, starts, is_tight_only, tight_only, Shaped, is_name, is_word, is_else, is_unsuffixed, is_number, is_opening, is_closing, is_less, is_other, touches}
 
--- ---- a token has characters, and is not what stands before the text
+-- ---- a token has characters, and is not what is before the text
 
 no_characters : (left : Role) → Shaped left [] → ⊥
 no_characters left h = elim h [ ]
@@ -28,7 +28,7 @@ pub not_beginning : (left : Role) (w : List ℕ) → Shaped left w → is left b
 not_beginning left w (is_other role x xs t) = no_beginning left t
 not_beginning left w h = refl
 
--- a character that stands in no token but alone
+-- a character that is in no token but alone
 ends_alone : (left : Role) (w : List ℕ) (c : ℕ) → Shaped left w → IsAlone c → EndsAt w c
 ends_alone left [] c h a = absurd (no_characters left h)
 ends_alone left (x ∷ xs) c h a = alone_ends c x xs a
@@ -36,31 +36,31 @@ ends_alone left (x ∷ xs) c h a = alone_ends c x xs a
 -- ---- what a token is to what follows it
 
 -- the name or the end of an attribute, or the end of an item
-tight_behind : (left right : Role) (w : List ℕ) → is_tight_only left ≡ true → Shaped right w → Shaped left w
-tight_behind left right [] t h = absurd (no_characters right h)
-tight_behind left right (x ∷ xs) t h = is_other left x xs t
+tight_after : (left right : Role) (w : List ℕ) → is_tight_only left ≡ true → Shaped right w → Shaped left w
+tight_after left right [] t h = absurd (no_characters right h)
+tight_after left right (x ∷ xs) t h = is_other left x xs t
 
-pub shaped_behind : (state : LayoutState) (right : Role) (w : List ℕ) → Shaped right w
-    → Shaped (last_behind state right) w
-shaped_behind state right w h = go (not (opens_bracket right) && is state.last at)
+pub shaped_after : (state : LayoutState) (right : Role) (w : List ℕ) → Shaped right w
+    → Shaped (last_after state right) w
+shaped_after state right w h = go (not (opens_bracket right) && is state.last at)
     (is right closing && in_arguments state.opened) (is right comma && in_members state.opened)
     (is right semicolon && not (in_brackets state.opened))
   where
     go : (a b c d : Bool) → Shaped (cond a attribute (cond b attribute (cond c item_end (cond d item_end right)))) w
-    go true b c d = tight_behind attribute right w refl h
-    go false true c d = tight_behind attribute right w refl h
-    go false false true d = tight_behind item_end right w refl h
-    go false false false true = tight_behind item_end right w refl h
+    go true b c d = tight_after attribute right w refl h
+    go false true c d = tight_after attribute right w refl h
+    go false false true d = tight_after item_end right w refl h
+    go false false false true = tight_after item_end right w refl h
     go false false false false = h
 
--- ---- where nothing stands between two tokens
+-- ---- where nothing is between two tokens
 
 -- they are closed up, or are `{` and `}`
 pub data Close (left right : Role) : Type 0 where
   close_up : closed_up left right ≡ true → Close left right
   braces : is right block_end ≡ true → Close left right
 
--- nothing may stand there
+-- nothing may be there
 abbrev pub may_close : Joint → Bool
 may_close nothing = true
 may_close nothing_or_line = true
@@ -134,7 +134,7 @@ close_ends left right w x h s (braces b) = at_one (EndsAt w) x 125 (closing_brac
 
 -- ---- before a comment
 
--- nothing stands between these brackets and a comment
+-- nothing is between these brackets and a comment
 abbrev pub is_before_comment : Role → Bool
 is_before_comment left = is left opening || is left template_start
 
@@ -149,7 +149,7 @@ opening_ends left w (is_less) e = sign_ends_before 60 [] (47 ∷ []) less_no_nam
 opening_ends left w (is_other role x xs t) e = absurd (true≢false (sym t ∙ opening_loose left e))
 opening_ends left w h e = absurd (true≢false (sym e))
 
--- ---- behind `/`
+-- ---- after `/`
 
 abbrev pub is_slash : List ℕ → Bool
 is_slash [] = false
@@ -200,11 +200,11 @@ close_no_comment left right w x h s (braces b) e = by_test (λ y. y == 125) x (c
 
 -- ---- all of it
 
--- a token and the character behind it begin no longer token and no comment
+-- a token and the character after it begin no longer token and no comment
 abbrev pub PartsAt : List ℕ → ℕ → Type 0
 PartsAt w c = EndsAt w c × (is_slash w ≡ true → NoComment c)
 
--- the same of every character that may stand behind it
+-- the same of every character that may be after it
 pub record Parts (left : Role) (w : List ℕ) : Type 0 where
   pub line_end : PartsAt w 10
   pub space : PartsAt w 32

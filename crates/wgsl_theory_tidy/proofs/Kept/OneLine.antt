@@ -1,4 +1,4 @@
--- A bracket in one line has no line end where its pieces are laid out.
+-- A bracket in one line has no line end where its pieces are formatted.
 use Rattle.std.proofs.Common.{◌≡◌, ℕ, zero, suc, ◌&&◌, ◌||◌, ◌==◌, ◌++◌, Bool, true, false, cond, not, refl, sym, ap, subst, ◌∙◌, List, [], ◌∷◌}
 use Rattle.std.proofs.lemmas.Bool.{true≢false}
 use Rattle.wgsl_model.specs.Tokens.ClassTable.{LineComment, BlockComment}
@@ -6,13 +6,13 @@ use Rattle.wgsl_model_tidy.specs.Pieces.{Piece}
 use Rattle.wgsl_model_tidy.specs.Roles.{Role, opening, template_start, block_start, block_end, beginning, is, opens_bracket, closes_bracket, closes, role_of}
 use Rattle.wgsl_model_tidy.specs.Joints.{Joint, line, nothing, space, nothing_or_line, space_or_line, closed_up, joint_in_line, joint}
 use Rattle.wgsl_model_tidy.specs.Layout.{Layout, column_after, line_fits}
-use Rattle.wgsl_model_tidy.specs.Open.{Style, together, as_written, item_by_item, Enclosing, one_line, enclosing, between_items, depth_of, role_in, opened_behind}
-use Rattle.wgsl_model_tidy.specs.LaidOut.{Gap, closed, blank, Last, token, line_comment, block_comment, leading_comment, open_comment, Spot, joint_gap, is_token, is_line, behind_comment, behind_leading, loose_joint, closes_up, token_gap, comment_gap, line_end, is_followed, owned, gap_before_comment, gap_before_token, gap_before, breaks, opens_one, closes_one, has_break, has_lines, is_comment, next_role, depth_behind, piece_text, leads, comment_last, may_break, has_several, may_part, style_of, gap_text, behind_piece, behind_first, laid_from, operand_follows}
-use Rattle.wgsl_theory_tidy.proofs.Laid.{behind_comment_at}
+use Rattle.wgsl_model_tidy.specs.Open.{Style, together, as_written, item_by_item, Enclosing, one_line, enclosing, between_items, depth_of, role_in, opened_after_token}
+use Rattle.wgsl_model_tidy.specs.LaidOut.{Gap, closed, blank, Last, token, line_comment, block_comment, leading_comment, open_comment, Spot, joint_gap, is_token, is_line, after_comment, after_leading, loose_joint, closes_up, token_gap, comment_gap, line_end, is_followed, owned, gap_before_comment, gap_before_token, gap_before, breaks, opens_one, closes_one, has_break, has_lines, is_comment, next_role, depth_after, piece_text, leads, comment_last, may_break, has_several, may_part, style_of, gap_text, after_piece, spot_after_first, laid_from, operand_follows}
+use Rattle.wgsl_theory_tidy.proofs.Laid.{after_comment_at}
 use Rattle.wgsl_theory_tidy.proofs.Kept.Gaps.{gap_ends}
-use Rattle.wgsl_theory_tidy.proofs.Kept.Relaid.{style_first, after_first, behind_ends, relaid}
+use Rattle.wgsl_theory_tidy.proofs.Kept.Relaid.{style_first, after_first, after_ends, relaid}
 use Rattle.wgsl_theory_tidy.proofs.Kept.PieceSpots.{comment_gap_before, token_gap_before, comment_spot, token_spot, token_next}
-use Rattle.wgsl_theory_tidy.proofs.Kept.BracketRoles.{opens_same, closes_same, is_brace, no_brace, opens_only, AreFlat, flat_enclosing, open_behind, flat_behind}
+use Rattle.wgsl_theory_tidy.proofs.Kept.BracketRoles.{opens_same, closes_same, is_brace, no_brace, opens_only, AreFlat, flat_enclosing, open_after, flat_after}
 use Rattle.wgsl_theory_tidy.proofs.Kept.Breaks.{neither, both_false, and_none, IsSmooth, smooth, smooth_again, comment_open, opens_in_one_line}
 
 -- ---- what is between two tokens there
@@ -46,7 +46,7 @@ none_owned spot right ps e =
 
 -- ---- the gap before a piece of which the author put none in a line of its own
 
--- no line has to end behind the last piece
+-- no line has to end after the last piece
 abbrev goes_on : Last → Bool
 goes_on line_comment = false
 goes_on last = true
@@ -62,20 +62,20 @@ flat_joint : (j : Joint) (break : Gap) → InLine j → gap_ends (joint_gap j 0 
 flat_joint _ break (close) = refl
 flat_joint _ break (apart) = refl
 
-flat_behind_block : (j : Joint) (right : Role) (break : Gap) → InLine j
-    → gap_ends (joint_gap (behind_comment j right) 0 break) ≡ 0
-flat_behind_block _ right break (close) = loose_flat right break
-flat_behind_block _ right break (apart) = loose_flat right break
+flat_after_block : (j : Joint) (right : Role) (break : Gap) → InLine j
+    → gap_ends (joint_gap (after_comment j right) 0 break) ≡ 0
+flat_after_block _ right break (close) = loose_flat right break
+flat_after_block _ right break (apart) = loose_flat right break
 
 no_block_end : (b : Bool) (right : Role) (break : Gap) → b ≡ false
     → gap_ends (joint_gap (cond (b || false) line (loose_joint right)) 0 break) ≡ 0
 no_block_end true right break h = absurd (true≢false h)
 no_block_end false right break h = loose_flat right break
 
-flat_behind_leading : (j : Joint) (right : Role) (break : Gap) → is right block_end ≡ false
-    → InLine j → gap_ends (joint_gap (behind_leading j right) 0 break) ≡ 0
-flat_behind_leading _ right break h (close) = no_block_end (is right block_end) right break h
-flat_behind_leading _ right break h (apart) = no_block_end (is right block_end) right break h
+flat_after_leading : (j : Joint) (right : Role) (break : Gap) → is right block_end ≡ false
+    → InLine j → gap_ends (joint_gap (after_leading j right) 0 break) ≡ 0
+flat_after_leading _ right break h (close) = no_block_end (is right block_end) right break h
+flat_after_leading _ right break h (apart) = no_block_end (is right block_end) right break h
 
 flat_token : (last : Last) (left right : Role) (break : Gap) → goes_on last ≡ true
     → is right block_end ≡ false → gap_ends (token_gap one_line last left right 0 break) ≡ 0
@@ -86,11 +86,11 @@ flat_token token left right break g h = go (is left beginning)
     go false = flat_joint (joint_in_line left right) break (in_line left right)
 flat_token line_comment left right break g h = absurd (true≢false (sym g))
 flat_token leading_comment left right break g h =
-    flat_behind_leading (joint_in_line left right) right break h (in_line left right)
+    flat_after_leading (joint_in_line left right) right break h (in_line left right)
 flat_token block_comment left right break g h =
-    flat_behind_block (joint_in_line left right) right break (in_line left right)
+    flat_after_block (joint_in_line left right) right break (in_line left right)
 flat_token open_comment left right break g h =
-    flat_behind_block (joint_in_line left right) right break (in_line left right)
+    flat_after_block (joint_in_line left right) right break (in_line left right)
 
 flat_comment : (class : ℕ) (last : Last) (left : Role) (break : Gap) → goes_on last ≡ true
     → gap_ends (comment_gap class last left false 0 break) ≡ 0
@@ -140,11 +140,11 @@ smooth_gap n spot p ps i s = go (is_comment p.class) refl
         ap gap_ends (token_gap_before spot right p ps h)
         ∙ ap (λ k. gap_ends (gap_before_token spot right k)) s.ends ∙ smooth_token n spot right i plain
 
--- ---- so they are behind a piece
+-- ---- so they are after a piece
 
-goes_on_behind : (class : ℕ) (leading : Bool) → (class == LineComment) ≡ false
+goes_on_after : (class : ℕ) (leading : Bool) → (class == LineComment) ≡ false
     → goes_on (comment_last class leading) ≡ true
-goes_on_behind class leading h = go (class == LineComment) (class == BlockComment) leading h
+goes_on_after class leading h = go (class == LineComment) (class == BlockComment) leading h
   where
     go : (b c d : Bool) → b ≡ false
         → goes_on (cond b line_comment (cond c (cond d leading_comment block_comment) open_comment)) ≡ true
@@ -166,8 +166,8 @@ style_flat layout inside class column ps in_one_line e h =
     ∙ ap (λ b. cond (b && long) item_by_item together) none
 
 flat_piece : (layout : Layout) (n : ℕ) (spot : Spot) (p : Piece) (ps : List Piece) → IsFlat (suc n) spot
-    → IsSmooth p → has_break (open_behind (closes_one p.class) (opens_one p.class) n) ps ≡ false
-    → IsFlat (open_behind (closes_one p.class) (opens_one p.class) n) (after_first layout spot p ps)
+    → IsSmooth p → has_break (open_after (closes_one p.class) (opens_one p.class) n) ps ≡ false
+    → IsFlat (open_after (closes_one p.class) (opens_one p.class) n) (after_first layout spot p ps)
 flat_piece layout n spot p ps i s e = go (is_comment p.class) refl
   where
     right : Role
@@ -184,34 +184,34 @@ flat_piece layout n spot p ps i s e = go (is_comment p.class) refl
 
     together_in : opens_one p.class ≡ true → style ≡ together
     together_in o =
-        let after = behind_first layout spot p ps together in
+        let after = spot_after_first layout spot p ps together in
         style_flat layout (enclosing spot.state.opened) p.class after.column ps
         (laid_from layout after ps) (flat_enclosing n spot.state.opened i.flat)
         (opens_in_one_line n (closes_one p.class) (opens_one p.class) ps (opens_only (role_of false p.class)) e o)
 
-    go : (b : Bool) → is_comment p.class ≡ b → IsFlat (open_behind (closes_one p.class)
-        (opens_one p.class) n) (behind_piece layout spot gap right p style)
+    go : (b : Bool) → is_comment p.class ≡ b → IsFlat (open_after (closes_one p.class)
+        (opens_one p.class) n) (after_piece layout spot gap right p style)
     go true h =
-        let here : IsFlat (suc n) (behind_comment_at spot.state (depth_behind gap spot.state.line)
+        let here : IsFlat (suc n) (after_comment_at spot.state (depth_after gap spot.state.line)
         (comment_last p.class (leads gap spot.last spot.state.last)) column) =
         record {
           flat = i.flat;
-          goes = goes_on_behind p.class (leads gap spot.last spot.state.last) s.no_line_comment;
+          goes = goes_on_after p.class (leads gap spot.last spot.state.last) s.no_line_comment;
         } in
-        subst (λ k. IsFlat k (behind_piece layout spot gap right p style)) (sym (comment_open n p.class h))
+        subst (λ k. IsFlat k (after_piece layout spot gap right p style)) (sym (comment_open n p.class h))
         (subst (IsFlat (suc n)) (sym (comment_spot layout spot gap right p style h)) here)
     go false h =
-        let depth = depth_behind gap spot.state.line in
+        let depth = depth_after gap spot.state.line in
         let operand = operand_follows ps in
         let does : right ≡ role_in spot.state p.class operand = token_next spot.state p ps h in
-        let opened : AreFlat (open_behind (closes_one p.class) (opens_one p.class) n)
-        (opened_behind spot.state depth right style) =
-        flat_behind n spot.state depth right style (closes_one p.class) (opens_one p.class)
+        let opened : AreFlat (open_after (closes_one p.class) (opens_one p.class) n)
+        (opened_after_token spot.state depth right style) =
+        flat_after n spot.state depth right style (closes_one p.class) (opens_one p.class)
         (ap closes_bracket does ∙ closes_same spot.state p.class operand)
         (ap opens_bracket does ∙ opens_same spot.state p.class operand)
         (ap is_brace does ∙ no_brace spot.state p.class operand s.no_left s.no_right)
         together_in i.flat in
-        subst (IsFlat (open_behind (closes_one p.class) (opens_one p.class) n))
+        subst (IsFlat (open_after (closes_one p.class) (opens_one p.class) n))
         (sym (token_spot layout spot gap right p style h)) (record { flat = opened; goes = refl })
 
 -- ---- so no line ends in them
@@ -225,9 +225,9 @@ flat_step layout n spot p ps i e others =
     let gap = gap_before spot right p ps in
     let parts = neither (breaks p) _ e in
     let s = smooth p parts.0 in
-    both_false (breaks (behind_ends p (gap_ends gap))) _
+    both_false (breaks (after_ends p (gap_ends gap))) _
     (smooth_again p (gap_ends gap) s (smooth_gap n spot p ps i s))
-    (others (open_behind (closes_one p.class) (opens_one p.class) n) (after_first layout spot p ps)
+    (others (open_after (closes_one p.class) (opens_one p.class) n) (after_first layout spot p ps)
     (flat_piece layout n spot p ps i s parts.1) parts.1)
 
 flat_again : (layout : Layout) (n : ℕ) (spot : Spot) (ps : List Piece) → IsFlat n spot
@@ -237,7 +237,7 @@ flat_again layout (suc n) spot [] i e = refl
 flat_again layout (suc n) spot (p ∷ ps) i e = flat_step layout n spot p ps i e
     (λ k after j f. flat_again layout k after ps j f)
 
--- behind an opening bracket in one line its text is in one line again
+-- after an opening bracket in one line its text is in one line again
 pub one_line_again : (layout : Layout) (spot : Spot) (ps : List Piece) → IsFlat 1 spot
     → has_lines ps ≡ false → has_lines (relaid layout spot ps) ≡ false
 one_line_again layout spot [] i e = refl

@@ -4,7 +4,7 @@ use Rattle.std.proofs.lemmas.Bool.{true≢false, and_parts, eqb-true}
 use Rattle.grammar.specs.Grammar.{is_among}
 use Rattle.wgsl_model.specs.Tokens.ClassTable.{AbstractFloat, AbstractInt, F16, F32, I32, Ident, KwDiagnostic, KwElse, KwFalse, KwTrue, ReservedWord, SymAnd, SymAttr, SymBang, SymBraceLeft, SymBraceRight, SymBracketLeft, SymBracketRight, SymColon, SymComma, SymMinus, SymMinusMinus, SymParenLeft, SymParenRight, SymPeriod, SymPlusPlus, SymSemicolon, SymStar, SymTilde, TemplateArgsEnd, TemplateArgsStart, U32}
 use Rattle.wgsl_model_tidy.specs.Roles.{Role, is_operator, name, unsuffixed, number, word, else_word, comma, semicolon, colon, period, at, step, binary, minus, ampersand, prefix, opening, closing, template_start, template_end, block_start, block_end, ends_operand, sign_role, role_of}
-use Rattle.wgsl_model_tidy.specs.Open.{Open, Style, LayoutState, role_in, opened_behind}
+use Rattle.wgsl_model_tidy.specs.Open.{Open, Style, LayoutState, role_in, opened_after_token}
 use Rattle.wgsl_theory_tidy.proofs.Kept.TextFronts.{by_test}
 use Rattle.wgsl_theory_tidy.proofs.Kept.NestedTokens.{Effect, opens, closes, none, effect}
 
@@ -12,12 +12,12 @@ use Rattle.wgsl_theory_tidy.proofs.Kept.NestedTokens.{Effect, opens, closes, non
 abbrev pub HasEffect : Effect → Role → Type 0
 HasEffect (opens true) right = right ≡ opening
 HasEffect (opens false) right = (state : LayoutState) (line : ℕ) (style : Style)
-    → (kind : Open) × (depth : ℕ) × (opened_behind state line right style ≡ (kind, depth) ∷ state.opened)
+    → (kind : Open) × (depth : ℕ) × (opened_after_token state line right style ≡ (kind, depth) ∷ state.opened)
 HasEffect (closes true) right = right ≡ closing
 HasEffect (closes false) right = (state : LayoutState) (line : ℕ) (style : Style)
-    → opened_behind state line right style ≡ drop 1 state.opened
+    → opened_after_token state line right style ≡ drop 1 state.opened
 HasEffect none right = (state : LayoutState) (line : ℕ) (style : Style)
-    → opened_behind state line right style ≡ state.opened
+    → opened_after_token state line right style ≡ state.opened
 
 -- a role with such an effect
 data Does (e : Effect) : Role → Type 0 where
@@ -111,7 +111,7 @@ role_does b c =
     let idle : effect c ≡ none = rw (h, k, l, m) refl in
     subst (λ e. Does e (role_of b c)) (sym idle) (idle_role b c h k starts.0 starts.1 ends.0 ends.1))))))
 
--- where it stands, before an operand or not: `--` may stand between operands
+-- where it is, before an operand or not: `--` may be between operands
 role_does_in : (state : LayoutState) (c : ℕ) (before_operand : Bool) → Does (effect c) (role_in state c before_operand)
 role_does_in state c before_operand = go (c == SymMinusMinus && before_operand) refl
   where

@@ -1,5 +1,5 @@
--- A bracket in lines of its own has a line end where its pieces are laid out: behind its opening
--- bracket, or behind the comments after that.
+-- A bracket in lines of its own has a line end where its pieces are formatted: after its opening
+-- bracket, or after the comments after that.
 use Rattle.std.proofs.Common.{◌≡◌, ℕ, zero, suc, ◌&&◌, ◌||◌, ◌==◌, Bool, true, false, cond, not, refl, sym, ap, subst, ◌∙◌, List, [], ◌∷◌}
 use Rattle.std.proofs.lemmas.Bool.{and_parts, and_from, or_left, or_right, true≢false}
 use Rattle.grammar.specs.Grammar.{is_among}
@@ -9,11 +9,11 @@ use Rattle.wgsl_model_tidy.specs.Roles.{Role, opening, template_start, beginning
 use Rattle.wgsl_model_tidy.specs.Joints.{line, joint}
 use Rattle.wgsl_model_tidy.specs.Layout.{Layout}
 use Rattle.wgsl_model_tidy.specs.Open.{own_lines, enclosing, between_items, depth_of, comment_depth}
-use Rattle.wgsl_model_tidy.specs.LaidOut.{Gap, closed, blank, broken, Last, token, line_comment, block_comment, leading_comment, open_comment, Spot, kept_gap, joint_gap, behind_comment, token_gap, comment_gap, comment_behind, line_end, owned, gap_before_token, gap_before, breaks, opens_one, closes_one, has_break, has_lines, is_comment, next_role, leads, comment_last}
+use Rattle.wgsl_model_tidy.specs.LaidOut.{Gap, closed, blank, broken, Last, token, line_comment, block_comment, leading_comment, open_comment, Spot, kept_gap, joint_gap, after_comment, token_gap, comment_gap, comment_after, line_end, owned, gap_before_token, gap_before, breaks, opens_one, closes_one, has_break, has_lines, is_comment, next_role, leads, comment_last}
 use Rattle.wgsl_theory_tidy.proofs.Kept.Gaps.{gap_ends}
-use Rattle.wgsl_theory_tidy.proofs.Kept.Relaid.{style_first, after_first, behind_ends, relaid}
+use Rattle.wgsl_theory_tidy.proofs.Kept.Relaid.{style_first, after_first, after_ends, relaid}
 use Rattle.wgsl_theory_tidy.proofs.Kept.PieceSpots.{comment_gap_before, token_gap_before, comment_spot}
-use Rattle.wgsl_theory_tidy.proofs.Kept.BracketRoles.{opens_later, open_behind}
+use Rattle.wgsl_theory_tidy.proofs.Kept.BracketRoles.{opens_later, open_after}
 use Rattle.wgsl_theory_tidy.proofs.Kept.Breaks.{both_false, among_three, comment_open}
 
 -- the last piece is a token, or a block comment that does not lead
@@ -31,20 +31,20 @@ pub record IsOpened (spot : Spot) : Type 0 where
 
 -- ---- before a token a line ends there
 
-line_behind_opening : (left right : Role) → opens_bracket left ≡ true → joint own_lines left right ≡ line
-line_behind_opening opening right h = refl
-line_behind_opening template_start right h = refl
-line_behind_opening left right h = absurd (true≢false (sym h))
+line_after_opening : (left right : Role) → opens_bracket left ≡ true → joint own_lines left right ≡ line
+line_after_opening opening right h = refl
+line_after_opening template_start right h = refl
+line_after_opening left right h = absurd (true≢false (sym h))
 
 token_broken : (last : Last) (left right : Role) (n : ℕ) (break : Gap) → is_beside last ≡ true
     → opens_bracket left ≡ true → token_gap own_lines last left right n break ≡ break
 token_broken token left right n break c h =
     ap (λ b. cond b closed (joint_gap (joint own_lines left right) n break)) (opens_later left h)
-    ∙ ap (λ j. joint_gap j n break) (line_behind_opening left right h)
+    ∙ ap (λ j. joint_gap j n break) (line_after_opening left right h)
 token_broken block_comment left right n break c h =
-    ap (λ j. joint_gap (behind_comment j right) n break) (line_behind_opening left right h)
+    ap (λ j. joint_gap (after_comment j right) n break) (line_after_opening left right h)
 token_broken open_comment left right n break c h =
-    ap (λ j. joint_gap (behind_comment j right) n break) (line_behind_opening left right h)
+    ap (λ j. joint_gap (after_comment j right) n break) (line_after_opening left right h)
 token_broken line_comment left right n break c h = absurd (true≢false (sym c))
 token_broken leading_comment left right n break c h = absurd (true≢false (sym c))
 
@@ -72,10 +72,10 @@ kept_comment : (n : ℕ) (last : Last) (left : Role) (empty : Bool) (depth : ℕ
 kept_comment zero last left empty depth other h = none_ended refl h
 kept_comment (suc n) last left empty depth other h = line_ended (some_ends empty depth)
 
-comment_behind_opening : (class : ℕ) (left : Role) (own : Bool) (n : ℕ) (empty : Bool) (depth : ℕ)
+comment_after_opening : (class : ℕ) (left : Role) (own : Bool) (n : ℕ) (empty : Bool) (depth : ℕ)
     → opens_bracket left ≡ true
-    → CommentGap n token left (comment_behind class left own n (broken empty depth))
-comment_behind_opening class left own n empty depth h = go (is left beginning) own
+    → CommentGap n token left (comment_after class left own n (broken empty depth))
+comment_after_opening class left own n empty depth h = go (is left beginning) own
     ((is left opening || is left template_start) && not (class == LineComment)) (opens_later left h)
   where
     go : (b o c : Bool) → b ≡ false → CommentGap n token left (cond b closed (cond o (broken empty depth)
@@ -88,7 +88,7 @@ comment_behind_opening class left own n empty depth h = go (is left beginning) o
 comment_beside : (class : ℕ) (last : Last) (left : Role) (own : Bool) (n : ℕ) (empty : Bool) (depth : ℕ)
     → is_beside last ≡ true → opens_bracket left ≡ true
     → CommentGap n last left (comment_gap class last left own n (broken empty depth))
-comment_beside class token left own n empty depth c h = comment_behind_opening class left own n empty depth h
+comment_beside class token left own n empty depth c h = comment_after_opening class left own n empty depth h
 comment_beside class block_comment left own n empty depth c h = kept_comment n block_comment left empty depth blank refl
 comment_beside class open_comment left own n empty depth c h = kept_comment n open_comment left empty depth blank refl
 comment_beside class line_comment left own n empty depth c h = absurd (true≢false (sym c))
@@ -109,7 +109,7 @@ lines_token : (layout : Layout) (spot : Spot) (p : Piece) (ps : List Piece) → 
 lines_token layout spot p ps i h =
     let right = next_role spot.state (p ∷ ps) in
     let gap = gap_before spot right p ps in
-    or_left (breaks (behind_ends p (gap_ends gap))) _ (or_left (not (gap_ends gap == 0)) _
+    or_left (breaks (after_ends p (gap_ends gap))) _ (or_left (not (gap_ends gap == 0)) _
     (ap (λ g. not (gap_ends g == 0)) (token_gap_before spot right p ps h) ∙ token_ended spot right p.line_ends i))
 
 lines_comment : (layout : Layout) (spot : Spot) (p : Piece) (ps : List Piece) → IsOpened spot
@@ -131,7 +131,7 @@ lines_comment layout spot p ps i h e others =
     after = after_first layout spot p ps
 
     again : Piece
-    again = behind_ends p (gap_ends gap)
+    again = after_ends p (gap_ends gap)
 
     still_opened : leads gap spot.last spot.state.last ≡ false → (p.class == LineComment) ≡ false → IsOpened after
     still_opened l c = subst IsOpened
@@ -145,7 +145,7 @@ lines_comment layout spot p ps i h e others =
     left_of : breaks p ≡ false → has_break 1 ps ≡ true
     left_of calm =
         ap (λ k. has_break k ps) (sym (comment_open 0 p.class h))
-        ∙ sym (ap (λ b. b || has_break (open_behind (closes_one p.class) (opens_one p.class) 0) ps) calm) ∙ e
+        ∙ sym (ap (λ b. b || has_break (open_after (closes_one p.class) (opens_one p.class) 0) ps) calm) ∙ e
 
     by : (b : Bool) → is_among p.class (LineComment ∷ SymBraceLeft ∷ SymBraceRight ∷ []) ≡ b
         → p.line_ends ≡ 0 → leads gap spot.last spot.state.last ≡ false
@@ -176,7 +176,7 @@ lines_again : (layout : Layout) (spot : Spot) (ps : List Piece) → IsOpened spo
 lines_again layout spot [] i e = absurd (true≢false (sym e))
 lines_again layout spot (p ∷ ps) i e = lines_step layout spot p ps i e (λ after j f. lines_again layout after ps j f)
 
--- behind an opening bracket in lines of its own its text has lines of its own again
+-- after an opening bracket in lines of its own its text has lines of its own again
 pub own_lines_again : (layout : Layout) (spot : Spot) (ps : List Piece) → IsOpened spot
     → has_lines ps ≡ true → has_lines (relaid layout spot ps) ≡ true
 own_lines_again layout spot [] i e = absurd (true≢false (sym e))

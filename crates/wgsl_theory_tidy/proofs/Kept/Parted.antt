@@ -1,4 +1,4 @@
--- A token of a text is read again before what is laid out behind it: a token, a comment, or the end
+-- A token of a text is read again before what is formatted after it: a token, a comment, or the end
 -- of the text.
 use Rattle.std.proofs.Common.{◌≡◌, ◌⊎◌, inl, inr, ℕ, zero, suc, ◌==◌, ◌&&◌, not, Bool, true, false, cond, refl, sym, ap, subst, ◌∙◌, List, [], ◌∷◌, ◌++◌, Some, lit<}
 use Rattle.std.specs.Prelude.{option_map}
@@ -16,9 +16,9 @@ use Rattle.wgsl_theory_printed.proofs.Spelling.Signs.{looked_up, spelled_symbol}
 use Rattle.wgsl_model_tidy.specs.Roles.{Role, template_start, beginning, is}
 use Rattle.wgsl_model_tidy.specs.Joints.{Joint, line, nothing, space, nothing_or_line, space_or_line, joint}
 use Rattle.wgsl_model_tidy.specs.Layout.{Layout}
-use Rattle.wgsl_model_tidy.specs.Open.{LayoutState, enclosing, between_items, depth_of, comment_depth, role_in, last_behind}
+use Rattle.wgsl_model_tidy.specs.Open.{LayoutState, enclosing, between_items, depth_of, comment_depth, role_in, last_after}
 use Rattle.wgsl_model_tidy.specs.LaidOut.{Gap, closed, blank, broken, token, Spot, kept_gap, joint_gap, line_end, gap_before_comment, gap_before_token, gap_text, ending}
-use Rattle.wgsl_theory_tidy.proofs.Kept.Neighbours.{not_beginning, shaped_behind, may_close, by_joint, is_before_comment, NoComment, PartsAt, Parts, parts}
+use Rattle.wgsl_theory_tidy.proofs.Kept.Neighbours.{not_beginning, shaped_after, may_close, by_joint, is_before_comment, NoComment, PartsAt, Parts, parts}
 use Rattle.wgsl_theory_tidy.proofs.Kept.Readings.{IsToken, is_word, is_slash, is_slash_equal, is_start, is_end}
 use Rattle.wgsl_theory_tidy.proofs.Kept.TokenRoles.{Starts, shaped}
 use Rattle.wgsl_theory_tidy.proofs.Kept.Touching.{Shaped, is_less}
@@ -35,7 +35,7 @@ broken_parts : (layout : Layout) (left : Role) (w : List ℕ) (empty : Bool) (de
 broken_parts layout left w true depth more p = p.line_end
 broken_parts layout left w false depth more p = p.line_end
 
--- a line end of the author's, or what stands there else
+-- a line end of the author's, or what is there else
 kept_parts : (layout : Layout) (left : Role) (w : List ℕ) (n : ℕ) (empty : Bool) (depth : ℕ)
     (other : Gap) (more : List ℕ) → Parts left w → PartsBefore w (gap_text layout other ++ more)
     → PartsBefore w (gap_text layout (kept_gap n (broken empty depth) other) ++ more)
@@ -53,7 +53,7 @@ joint_parts layout left w nothing_or_line n empty depth more p e =
 joint_parts layout left w space_or_line n empty depth more p e =
     kept_parts layout left w n empty depth blank more p p.space
 
--- ---- behind a token
+-- ---- after a token
 
 token_parts : (layout : Layout) (column : ℕ) (state : LayoutState) (right : Role) (n : ℕ) (w v more : List ℕ)
     → Shaped state.last w → Starts right v → PartsBefore w (gap_text layout
@@ -156,7 +156,7 @@ parted_again k w rest more (is_slash_equal others r) p = is_slash_equal more
 parted_again k w rest more (is_start others) p = is_start more
 parted_again k w rest more (is_end others) p = is_end more
 
--- the end of a template list stands before everything
+-- the end of a template list is before everything
 end_again : (k : Kind) (w rest more : List ℕ) → k ≡ plain TemplateArgsEnd → IsToken k w rest → IsToken k w more
 end_again k w rest more e (is_word kind v others m s r) =
     absurd (true≢false (sym (ap (λ (x : Kind). is_mark_role (role x.class)) e) ∙ m))
@@ -166,16 +166,16 @@ end_again k w rest more e (is_slash_equal others r) =
 end_again k w rest more e (is_start others) = is_start more
 end_again k w rest more e (is_end others) = is_end more
 
--- a token of a text is one before other characters, where none of those that may stand behind it
+-- a token of a text is one before other characters, where none of those that may be after it
 -- makes more of it
 pub token_again : (state : LayoutState) (k : Kind) (before_operand : Bool) (w rest more : List ℕ)
     → IsToken k w rest
-    → (Shaped (last_behind state (role_in state k.class before_operand)) w → PartsBefore w more)
+    → (Shaped (last_after state (role_in state k.class before_operand)) w → PartsBefore w more)
     → IsToken k w more
 token_again state k before_operand w rest more t f = go (shaped state k before_operand w rest t)
   where
     go : Shaped (role_in state k.class before_operand) w ⊎ (k ≡ plain TemplateArgsEnd) → IsToken k w more
-    go (inl h) = parted_again k w rest more t (f (shaped_behind state (role_in state k.class before_operand) w h))
+    go (inl h) = parted_again k w rest more t (f (shaped_after state (role_in state k.class before_operand) w h))
     go (inr e) = end_again k w rest more e t
 
 less_spelling : IsSpelling (plain SymLessThan) (60 ∷ [])
@@ -187,7 +187,7 @@ less_spelling = record {
 
 -- the `<` of a template list is the token `<`
 pub start_again : (state : LayoutState) (more : List ℕ)
-    → (Shaped (last_behind state template_start) (60 ∷ []) → PartsBefore (60 ∷ []) more)
+    → (Shaped (last_after state template_start) (60 ∷ []) → PartsBefore (60 ∷ []) more)
     → raw (60 ∷ more) ≡ raw_token (plain SymLessThan) (60 ∷ more) more
 start_again state more f = spelling_stands (plain SymLessThan) (60 ∷ []) more less_spelling
-    (parts_ends (60 ∷ []) more (f (shaped_behind state template_start (60 ∷ []) is_less)))
+    (parts_ends (60 ∷ []) more (f (shaped_after state template_start (60 ∷ []) is_less)))

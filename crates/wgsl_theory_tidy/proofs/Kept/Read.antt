@@ -61,16 +61,16 @@ read_from source text ts b (walk_token t from rest k us cut h) =
     let here : source ≡ (b.0 ++ cut.trivia) ++ from = before ∙ sym (append_assoc b.0 cut.trivia from) in
     let word : source ≡ (b.0 ++ cut.trivia) ++ (cut.word ++ rest) = here
     ∙ ap (λ xs. (b.0 ++ cut.trivia) ++ xs) cut.begins in
-    let behind : source ≡ ((b.0 ++ cut.trivia) ++ cut.word) ++ rest = word
+    let following : source ≡ ((b.0 ++ cut.trivia) ++ cut.word) ++ rest = word
     ∙ sym (append_assoc (b.0 ++ cut.trivia) cut.word rest) in
     let at_from = begins_at source (b.0 ++ cut.trivia) from here in
-    let at_rest = begins_at source ((b.0 ++ cut.trivia) ++ cut.word) rest behind in
+    let at_rest = begins_at source ((b.0 ++ cut.trivia) ++ cut.word) rest following in
     read_more text from rest k (map unplaced us) (pieces_from source (place (width source) rest) us) _ _ cut
     (between_at source b.0 cut.trivia from _ _ before (begins_at source b.0 text b.1)
     (at_from ∙ width-append b.0 cut.trivia))
     (between_at source (b.0 ++ cut.trivia) cut.word rest _ _ word at_from
     (at_rest ∙ width-append (b.0 ++ cut.trivia) cut.word))
-    (read_from source rest us (((b.0 ++ cut.trivia) ++ cut.word), behind) h)
+    (read_from source rest us (((b.0 ++ cut.trivia) ++ cut.word), following) h)
 
 -- a whole source
 pub read : (source : List ℕ) (ts : List Token) → IsTokenList source ts finished

@@ -1,4 +1,4 @@
--- The pieces of a laid-out text: the same pieces as they are written, each behind as many line ends
+-- The pieces of a laid-out text: the same pieces as they are written, each after as many line ends
 -- as its gap has.
 use Rattle.std.proofs.Common.{◌≡◌, ℕ, Bool, false, cond, refl, ap, ap₂, List, [], ◌∷◌, map}
 use Rattle.wgsl_model_tidy.specs.Pieces.{Piece}
@@ -6,23 +6,23 @@ use Rattle.wgsl_model_tidy.specs.Kept.{class_and_text}
 use Rattle.wgsl_model_tidy.specs.Roles.{Role, begins_operand, role_of}
 use Rattle.wgsl_model_tidy.specs.Layout.{Layout}
 use Rattle.wgsl_model_tidy.specs.Open.{Style, together, LayoutState, enclosing, role_in}
-use Rattle.wgsl_model_tidy.specs.LaidOut.{Gap, Spot, is_comment, next_role, gap_before, piece_text, behind_first, style_of, laid_from, operand_follows}
+use Rattle.wgsl_model_tidy.specs.LaidOut.{Gap, Spot, is_comment, next_role, gap_before, piece_text, spot_after_first, style_of, laid_from, operand_follows}
 use Rattle.wgsl_theory_tidy.proofs.Kept.Gaps.{gap_ends}
 use Rattle.wgsl_theory_tidy.proofs.Kept.ShownTexts.{text_kept}
 
 -- how a bracket is written that the first of these pieces opens
 abbrev pub style_first : Layout → Spot → Piece → List Piece → Style
 style_first layout spot p ps =
-    let after = behind_first layout spot p ps together in
+    let after = spot_after_first layout spot p ps together in
     style_of layout (enclosing spot.state.opened) p.class after.column ps (laid_from layout after ps)
 
 -- the spot after the first of these pieces
 abbrev pub after_first : Layout → Spot → Piece → List Piece → Spot
-after_first layout spot p ps = behind_first layout spot p ps (style_first layout spot p ps)
+after_first layout spot p ps = spot_after_first layout spot p ps (style_first layout spot p ps)
 
--- a piece behind so many line ends
-abbrev pub behind_ends : Piece → ℕ → Piece
-behind_ends p n = record { class = p.class; text = p.text; line_ends = n }
+-- a piece after a number of line ends
+abbrev pub after_ends : Piece → ℕ → Piece
+after_ends p n = record { class = p.class; text = p.text; line_ends = n }
 
 -- a piece after this gap, as it is read again
 abbrev pub read_again : Layout → Spot → Gap → Piece → Piece
@@ -32,7 +32,7 @@ read_again layout spot gap p = record { class = p.class; text = piece_text layou
 abbrev pub first_again : Layout → Spot → Piece → List Piece → Piece
 first_again layout spot p ps = read_again layout spot (gap_before spot (next_role spot.state (p ∷ ps)) p ps) p
 
--- the pieces of the text in which these are laid out behind a spot
+-- the pieces of the text in which these are formatted after a spot
 abbrev pub relaid : Layout → Spot → List Piece → List Piece
 relaid layout spot [] = []
 relaid layout spot (p ∷ ps) = first_again layout spot p ps ∷ relaid layout (after_first layout spot p ps) ps

@@ -1,4 +1,4 @@
--- Pieces that are laid out are laid out as they are.
+-- Pieces that are formatted are formatted as they are.
 use Rattle.std.proofs.Common.{◌≡◌, ℕ, ◌&&◌, ◌||◌, Bool, true, false, cond, not, refl, sym, ap, ◌∙◌, List, [], ◌∷◌, ◌++◌}
 use Rattle.std.proofs.lemmas.Bool.{and_parts, and_from}
 use Rattle.wgsl_model_tidy.specs.Pieces.{Piece}
@@ -6,11 +6,11 @@ use Rattle.wgsl_model_tidy.specs.Roles.{Role, beginning, closes}
 use Rattle.wgsl_model_tidy.specs.Joints.{joint}
 use Rattle.wgsl_model_tidy.specs.Layout.{Layout}
 use Rattle.wgsl_model_tidy.specs.Open.{Enclosing, enclosing, between_items, depth_of, comment_depth}
-use Rattle.wgsl_model_tidy.specs.LaidOut.{Gap, Spot, is_behind_opening, is_comment, next_role, is_token, is_line, is_followed, owned, gap_before_comment, gap_before_token, gap_before, token_gap, behind_piece, laid_from, laid_out, first_spot, gap_text, piece_text}
+use Rattle.wgsl_model_tidy.specs.LaidOut.{Gap, Spot, is_after_opening, is_comment, next_role, is_token, is_line, is_followed, owned, gap_before_comment, gap_before_token, gap_before, token_gap, after_piece, laid_from, laid_out, first_spot, gap_text, piece_text}
 use Rattle.wgsl_theory_tidy.proofs.Kept.Gaps.{gap_ends}
 use Rattle.wgsl_theory_tidy.proofs.Kept.Relaid.{style_first, after_first, read_again, first_again, relaid, relaid_next}
 use Rattle.wgsl_theory_tidy.proofs.Kept.ShownTexts.{text_again}
-use Rattle.wgsl_theory_tidy.proofs.Kept.RelaidEnds.{behind_comment_piece, followed_again}
+use Rattle.wgsl_theory_tidy.proofs.Kept.RelaidEnds.{after_comment_piece, followed_again}
 use Rattle.wgsl_theory_tidy.proofs.Kept.Settled.{settled_state, settled, settled_enclosing, settled_encloses, settled_between, settled_depth, settled_comment_depth, settled_next}
 use Rattle.wgsl_theory_tidy.proofs.Kept.SettledJoints.{settled_joint, line_before}
 use Rattle.wgsl_theory_tidy.proofs.Kept.GapsAgain.{break_for, token_again, comment_again}
@@ -39,7 +39,7 @@ settled_token_gap : (spot : Spot) (right : Role) (n : ℕ)
     → gap_before_token (settled spot) right n
     ≡ token_gap (settled_enclosing (enclosing spot.state.opened)) spot.last spot.state.last right n
     (break_for (between_items spot.state right
-    && not (is_behind_opening spot.last spot.state.last || closes right)) (depth_of spot.state right) n)
+    && not (is_after_opening spot.last spot.state.last || closes right)) (depth_of spot.state right) n)
 settled_token_gap spot right n =
     rw (settled_encloses spot.state.opened, settled_between spot.state right, settled_depth spot.state right) refl
 
@@ -66,16 +66,16 @@ gap_again layout spot right p ps qs h = go (is_comment p.class) refl
     go true c =
         settled_comment_gap spot right p.class (owned (settled spot) right qs) _
         ∙ comment_again p.class spot.last spot.state.last _ _ (between_items spot.state right
-        && not (is_behind_opening spot.last spot.state.last || closes beginning))
+        && not (is_after_opening spot.last spot.state.last || closes beginning))
         (comment_depth spot.state right) p.line_ends
         (own_only spot right ps qs (h c))
     go false c =
         settled_token_gap spot right _
         ∙ token_again (enclosing spot.state.opened) spot.last spot.state.last right
-        (between_items spot.state right && not (is_behind_opening spot.last spot.state.last || closes right))
+        (between_items spot.state right && not (is_after_opening spot.last spot.state.last || closes right))
         (depth_of spot.state right) p.line_ends
 
--- ---- so the text is laid out as before
+-- ---- so the text is formatted as before
 
 -- the first piece is formatted again before the others
 again : (layout : Layout) (spot : Spot) (p : Piece) (ps : List Piece) → SameOthers layout ps
@@ -109,12 +109,12 @@ again layout spot p ps others =
 
     gap_same : gap_before (settled spot) right p' rest ≡ gap
     gap_same = gap_again layout spot right p ps rest (λ c. followed_again layout after ps
-        (behind_comment_piece layout spot gap right p (style_first layout spot p ps) c))
+        (after_comment_piece layout spot gap right p (style_first layout spot p ps) c))
 
     same : SameGap layout spot p ps
     same style =
-        ap (λ r. behind_piece layout (settled spot) (gap_before (settled spot) r p' rest) r p' style) next
-        ∙ ap (λ g. behind_piece layout (settled spot) g right p' style) gap_same
+        ap (λ r. after_piece layout (settled spot) (gap_before (settled spot) r p' rest) r p' style) next
+        ∙ ap (λ g. after_piece layout (settled spot) g right p' style) gap_same
 
 -- after a spot in which the brackets that were written item by item keep their lines
 settled_again : (layout : Layout) (ps : List Piece) → SameOthers layout ps

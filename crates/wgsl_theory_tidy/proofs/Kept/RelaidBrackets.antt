@@ -5,9 +5,9 @@ use Rattle.std.proofs.lemmas.Bool.{and_parts, true≢false}
 use Rattle.wgsl_model_tidy.specs.Pieces.{Piece}
 use Rattle.wgsl_model_tidy.specs.Roles.{Role, opens_bracket}
 use Rattle.wgsl_model_tidy.specs.Layout.{Layout, column_after, line_fits}
-use Rattle.wgsl_model_tidy.specs.Open.{Style, together, as_written, item_by_item, Opened, LayoutState, enclosing, last_behind, leading_behind, structure_behind}
-use Rattle.wgsl_model_tidy.specs.LaidOut.{Gap, token, Spot, opens_one, closes_one, has_lines, may_break, ends_bracket, has_several, may_part, style_of, is_comment, next_role, gap_before, depth_behind, gap_text, piece_text, leads, comment_last, behind_piece, behind_first, laid_from}
-use Rattle.wgsl_theory_tidy.proofs.Laid.{behind_comment_at, behind_token_at}
+use Rattle.wgsl_model_tidy.specs.Open.{Style, together, as_written, item_by_item, Opened, LayoutState, enclosing, last_after, leading_after, structure_after}
+use Rattle.wgsl_model_tidy.specs.LaidOut.{Gap, token, Spot, opens_one, closes_one, has_lines, may_break, ends_bracket, has_several, may_part, style_of, is_comment, next_role, gap_before, depth_after, gap_text, piece_text, leads, comment_last, after_piece, spot_after_first, laid_from}
+use Rattle.wgsl_theory_tidy.proofs.Laid.{after_comment_at, after_token_at}
 use Rattle.wgsl_theory_tidy.proofs.Kept.Relaid.{style_first, after_first, read_again, first_again, relaid}
 use Rattle.wgsl_theory_tidy.proofs.Kept.ShownTexts.{text_again}
 use Rattle.wgsl_theory_tidy.proofs.Kept.PieceSpots.{comment_spot, token_spot}
@@ -21,24 +21,24 @@ use Rattle.wgsl_theory_tidy.proofs.Kept.ItemLines.{parted, item_lines_again}
 
 written_again : (layout : Layout) (state : LayoutState) (depth class : ℕ) (right : Role)
     (column : ℕ) (ps : List Piece) → opens_bracket right ≡ true → has_lines ps ≡ true
-    → has_lines (relaid layout (behind_token_at state depth class right column as_written) ps) ≡ true
+    → has_lines (relaid layout (after_token_at state depth class right column as_written) ps) ≡ true
 written_again layout state depth class right column ps h e =
-    own_lines_again layout (behind_token_at state depth class right column as_written) ps
+    own_lines_again layout (after_token_at state depth class right column as_written) ps
     (record { lines = opens_enclosing state depth right as_written h; opens = opens_last state right h; beside = refl })
     e
 
 items_again : (layout : Layout) (state : LayoutState) (depth class : ℕ) (right : Role) (column : ℕ)
     (ps : List Piece) → opens_bracket right ≡ true → has_several ps ≡ true → has_lines ps ≡ false
-    → has_lines (relaid layout (behind_token_at state depth class right column item_by_item) ps) ≡ true
+    → has_lines (relaid layout (after_token_at state depth class right column item_by_item) ps) ≡ true
 items_again layout state depth class right column ps h m e = item_lines_again layout
-    (behind_token_at state depth class right column item_by_item) ps
+    (after_token_at state depth class right column item_by_item) ps
     (parted state depth class right column h) m e
 
 together_again : (layout : Layout) (state : LayoutState) (depth class : ℕ) (right : Role)
     (column : ℕ) (ps : List Piece) → opens_bracket right ≡ true → has_lines ps ≡ false
-    → has_lines (relaid layout (behind_token_at state depth class right column together) ps) ≡ false
+    → has_lines (relaid layout (after_token_at state depth class right column together) ps) ≡ false
 together_again layout state depth class right column ps h e = one_line_again layout
-    (behind_token_at state depth class right column together) ps
+    (after_token_at state depth class right column together) ps
     (record { flat = flat_opens 0 state depth right h tt; goes = refl }) e
 
 -- as much is in it
@@ -84,15 +84,15 @@ by_neither lines long h k = ap₂ (λ (b : Bool) (c : Bool). cond b as_written (
 -- a bracket that no token opens is written as any other
 pub other_style : (state : LayoutState) (depth class : ℕ) (right : Role) (column : ℕ) (style other : Style)
     → opens_bracket right ≡ false
-    → behind_token_at state depth class right column style ≡ behind_token_at state depth class right column other
+    → after_token_at state depth class right column style ≡ after_token_at state depth class right column other
 other_style state depth class right column style other h =
     let spot : Opened → Spot = λ opened. record {
       state = record {
         opened = opened;
         line = depth;
-        last = last_behind state right;
-        leading = leading_behind state right;
-        structure = structure_behind state class right;
+        last = last_after state right;
+        leading = leading_after state right;
+        structure = structure_after state class right;
       };
       last = token;
       column = column;
@@ -101,19 +101,19 @@ other_style state depth class right column style other h =
 
 style_free : (layout : Layout) (spot : Spot) (gap : Gap) (right : Role) (p : Piece) (style other : Style)
     → (is_comment p.class ≡ false → opens_bracket right ≡ false)
-    → behind_piece layout spot gap right p style ≡ behind_piece layout spot gap right p other
+    → after_piece layout spot gap right p style ≡ after_piece layout spot gap right p other
 style_free layout spot gap right p style other h = go (is_comment p.class) refl
   where
     go : (b : Bool) → is_comment p.class ≡ b
-        → behind_piece layout spot gap right p style ≡ behind_piece layout spot gap right p other
+        → after_piece layout spot gap right p style ≡ after_piece layout spot gap right p other
     go true c = comment_spot layout spot gap right p style c ∙ sym (comment_spot layout spot gap right p other c)
     go false c = token_spot layout spot gap right p style c
-        ∙ other_style spot.state (depth_behind gap spot.state.line) p.class right _ style other (h c)
+        ∙ other_style spot.state (depth_after gap spot.state.line) p.class right _ style other (h c)
         ∙ sym (token_spot layout spot gap right p other c)
 
 piece_again : (layout : Layout) (spot : Spot) (gap : Gap) (right : Role) (p : Piece) (style : Style)
-    → behind_piece layout (settled spot) gap right (read_again layout spot gap p) (settle style)
-    ≡ settled (behind_piece layout spot gap right p style)
+    → after_piece layout (settled spot) gap right (read_again layout spot gap p) (settle style)
+    ≡ settled (after_piece layout spot gap right p style)
 piece_again layout spot gap right p style = go (is_comment p.class) refl
   where
     column : List ℕ → ℕ
@@ -123,18 +123,18 @@ piece_again layout spot gap right p style = go (is_comment p.class) refl
     same = text_again layout spot gap p
 
     go : (b : Bool) → is_comment p.class ≡ b
-        → behind_piece layout (settled spot) gap right (read_again layout spot gap p) (settle style)
-        ≡ settled (behind_piece layout spot gap right p style)
+        → after_piece layout (settled spot) gap right (read_again layout spot gap p) (settle style)
+        ≡ settled (after_piece layout spot gap right p style)
     go true c =
         comment_spot layout (settled spot) gap right (read_again layout spot gap p) (settle style) c
-        ∙ ap (λ text. behind_comment_at (settled spot).state (depth_behind gap spot.state.line)
+        ∙ ap (λ text. after_comment_at (settled spot).state (depth_after gap spot.state.line)
         (comment_last p.class (leads gap spot.last spot.state.last)) (column text)) same
         ∙ sym (ap settled (comment_spot layout spot gap right p style c))
     go false c =
         token_spot layout (settled spot) gap right (read_again layout spot gap p) (settle style) c
-        ∙ ap (λ text. behind_token_at (settled spot).state
-        (depth_behind gap spot.state.line) p.class right (column text) (settle style)) same
-        ∙ settled_token spot.state (depth_behind gap spot.state.line) p.class right _ style
+        ∙ ap (λ text. after_token_at (settled spot).state
+        (depth_after gap spot.state.line) p.class right (column text) (settle style)) same
+        ∙ settled_token spot.state (depth_after gap spot.state.line) p.class right _ style
         ∙ sym (ap settled (token_spot layout spot gap right p style c))
 
 -- ---- formatted again, where the gap before the first piece is the same
@@ -148,8 +148,8 @@ abbrev pub SameGap : Layout → Spot → Piece → List Piece → Type 0
 SameGap layout spot p ps =
     let right = next_role spot.state (p ∷ ps) in
     let again = first_again layout spot p ps in
-    (style : Style) → behind_first layout (settled spot) again (others_again layout spot p ps) style
-    ≡ behind_piece layout (settled spot) (gap_before spot right p ps) right again style
+    (style : Style) → spot_after_first layout (settled spot) again (others_again layout spot p ps) style
+    ≡ after_piece layout (settled spot) (gap_before spot right p ps) right again style
 
 -- the others stay as they are if they are formatted again
 abbrev pub SameOthers : Layout → List Piece → Type 0
@@ -172,17 +172,17 @@ style_again layout spot p ps same others c o =
     gap = gap_before spot right p ps
 
     depth : ℕ
-    depth = depth_behind gap spot.state.line
+    depth = depth_after gap spot.state.line
 
     flat : Spot
-    flat = behind_first layout spot p ps together
+    flat = spot_after_first layout spot p ps together
 
     long : Bool
     long = may_part layout (enclosing spot.state.opened) p.class ps
         && not (line_fits layout flat.column (laid_from layout flat ps))
 
     rest : Style → List Piece
-    rest style = relaid layout (behind_first layout spot p ps style) ps
+    rest style = relaid layout (spot_after_first layout spot p ps style) ps
 
     styled : Spot → Style
     styled after = style_of layout (enclosing (settled_opened spot.state.opened)) p.class after.column
@@ -193,7 +193,7 @@ style_again layout spot p ps same others c o =
         && not (line_fits layout flat.column (laid_from layout (settled flat) (rest style)))
 
     lines_for : (style : Style) (b : Bool)
-        → has_lines (relaid layout (behind_token_at spot.state depth p.class right (column_after layout
+        → has_lines (relaid layout (after_token_at spot.state depth p.class right (column_after layout
         spot.column (gap_text layout gap ++ piece_text layout spot gap p)) style) ps) ≡ b
         → has_lines (rest style) ≡ b
     lines_for style b e =
@@ -239,13 +239,13 @@ after_again layout spot p ps same others = same style
     style : Style
     style = style_first layout (settled spot) (first_again layout spot p ps) (others_again layout spot p ps)
 
-    behind : Style → Spot
-    behind s = behind_piece layout (settled spot) gap right (first_again layout spot p ps) s
+    following : Style → Spot
+    following s = after_piece layout (settled spot) gap right (first_again layout spot p ps) s
 
     go : (b o : Bool) → is_comment p.class ≡ b → opens_bracket right ≡ o
-        → behind style ≡ behind (settle (style_first layout spot p ps))
+        → following style ≡ following (settle (style_first layout spot p ps))
     go true o c e = style_free layout (settled spot) gap right (first_again layout spot p ps) style
         (settle (style_first layout spot p ps)) (λ d. absurd (true≢false (sym c ∙ d)))
-    go false true c e = ap behind (style_again layout spot p ps same others c e)
+    go false true c e = ap following (style_again layout spot p ps same others c e)
     go false false c e = style_free layout (settled spot) gap right
         (first_again layout spot p ps) style (settle (style_first layout spot p ps)) (λ d. e)

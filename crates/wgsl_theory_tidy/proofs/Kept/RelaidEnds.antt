@@ -1,5 +1,5 @@
 -- Line ends in a laid-out text: a comment keeps those that are after it, so what follows a comment
--- in its line follows in the line of the comment that is laid out.
+-- in its line follows in the line of the comment that is formatted.
 use Rattle.std.proofs.Common.{◌≡◌, ℕ, zero, suc, ◌&&◌, ◌||◌, ◌==◌, Bool, true, false, cond, refl, List, [], ◌∷◌}
 use Rattle.std.proofs.lemmas.Bool.{and_parts, and_from, eqb-true}
 use Rattle.wgsl_model.specs.Tokens.ClassTable.{LineComment, BlockComment}
@@ -8,7 +8,7 @@ use Rattle.wgsl_model_tidy.specs.Roles.{Role, block_end, is, closes_bracket}
 use Rattle.wgsl_model_tidy.specs.Joints.{Joint, line, nothing, space, nothing_or_line, space_or_line, joint}
 use Rattle.wgsl_model_tidy.specs.Layout.{Layout}
 use Rattle.wgsl_model_tidy.specs.Open.{Style, Enclosing, enclosing, depth_of, comment_depth}
-use Rattle.wgsl_model_tidy.specs.LaidOut.{Gap, broken, Last, token, line_comment, block_comment, leading_comment, open_comment, Spot, joint_gap, behind_comment, behind_leading, token_gap, comment_gap, is_comment, is_line, loose_joint, closes_up, leads, comment_last, next_role, is_followed, gap_before_comment, gap_before_token, gap_before, owned, behind_piece}
+use Rattle.wgsl_model_tidy.specs.LaidOut.{Gap, broken, Last, token, line_comment, block_comment, leading_comment, open_comment, Spot, joint_gap, after_comment, after_leading, token_gap, comment_gap, is_comment, is_line, loose_joint, closes_up, leads, comment_last, next_role, is_followed, gap_before_comment, gap_before_token, gap_before, owned, after_piece}
 use Rattle.wgsl_theory_tidy.proofs.Kept.Gaps.{gap_ends}
 use Rattle.wgsl_theory_tidy.proofs.Kept.Relaid.{style_first, after_first, relaid}
 
@@ -26,7 +26,7 @@ loose_some right n empty depth = go (closes_up right)
     go false = broken_some empty depth
 
 leading_some : (j : Joint) (right : Role) (n : ℕ) (empty : Bool) (depth : ℕ)
-    → gap_ends (joint_gap (behind_leading j right) (suc n) (broken empty depth)) ≡ 0 → ⊥
+    → gap_ends (joint_gap (after_leading j right) (suc n) (broken empty depth)) ≡ 0 → ⊥
 leading_some j right n empty depth = go (is right block_end || (is_line j && closes_bracket right))
   where
     go : (b : Bool) → gap_ends (joint_gap (cond b line (loose_joint right)) (suc n) (broken empty depth)) ≡ 0 → ⊥
@@ -34,7 +34,7 @@ leading_some j right n empty depth = go (is right block_end || (is_line j && clo
     go false = loose_some right n empty depth
 
 comment_some : (j : Joint) (right : Role) (n : ℕ) (empty : Bool) (depth : ℕ)
-    → gap_ends (joint_gap (behind_comment j right) (suc n) (broken empty depth)) ≡ 0 → ⊥
+    → gap_ends (joint_gap (after_comment j right) (suc n) (broken empty depth)) ≡ 0 → ⊥
 comment_some line right n empty depth = broken_some empty depth
 comment_some nothing right n empty depth = loose_some right n empty depth
 comment_some space right n empty depth = loose_some right n empty depth
@@ -91,9 +91,9 @@ comment_not_token class leading = go (class == LineComment) (class == BlockComme
     go false true false e = absurd cc
     go false false d e = absurd cc
 
-pub behind_comment_piece : (layout : Layout) (spot : Spot) (gap : Gap) (right : Role) (p : Piece) (style : Style)
-    → is_comment p.class ≡ true → (behind_piece layout spot gap right p style).last ≡ token → ⊥
-behind_comment_piece layout spot gap right p style h = rw h
+pub after_comment_piece : (layout : Layout) (spot : Spot) (gap : Gap) (right : Role) (p : Piece) (style : Style)
+    → is_comment p.class ≡ true → (after_piece layout spot gap right p style).last ≡ token → ⊥
+after_comment_piece layout spot gap right p style h = rw h
     (comment_not_token p.class (leads gap spot.last spot.state.last))
 
 followed_step : (layout : Layout) (spot : Spot) (p : Piece) (ps : List Piece)
@@ -115,7 +115,7 @@ followed_step layout spot p ps h e others = and_from _ _ (no_ends spot right p p
 
     go : (b : Bool) → is_comment p.class ≡ b → cond b (is_followed (relaid layout after ps)) true ≡ true
         → cond b (is_followed ps) true ≡ true
-    go true c f = others after (behind_comment_piece layout spot
+    go true c f = others after (after_comment_piece layout spot
         (gap_before spot right p ps) right p (style_first layout spot p ps) c) f
     go false c f = refl
 

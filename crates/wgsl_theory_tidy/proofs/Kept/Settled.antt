@@ -2,9 +2,9 @@
 use Rattle.std.proofs.Common.{◌≡◌, ℕ, Bool, true, false, cond, refl, sym, ap, ap₂, ◌∙◌, List, [], ◌∷◌, drop}
 use Rattle.wgsl_model_tidy.specs.Pieces.{Piece}
 use Rattle.wgsl_model_tidy.specs.Roles.{Role, opening, closing, template_start, template_end, block_start, block_end, attribute, is}
-use Rattle.wgsl_model_tidy.specs.Open.{Style, together, as_written, item_by_item, Open, block, members, arguments, bracket, Opened, LayoutState, in_brackets, Enclosing, no_bracket, one_line, own_lines, item_lines, enclosed_by, enclosing, in_members, in_arguments, inner_depth, outer_depth, between_items, depth_of, comment_depth, last_behind, leading_behind, structure_behind, opened_behind, role_in}
+use Rattle.wgsl_model_tidy.specs.Open.{Style, together, as_written, item_by_item, Open, block, members, arguments, bracket, Opened, LayoutState, in_brackets, Enclosing, no_bracket, one_line, own_lines, item_lines, enclosed_by, enclosing, in_members, in_arguments, inner_depth, outer_depth, between_items, depth_of, comment_depth, last_after, leading_after, structure_after, opened_after_token, role_in}
 use Rattle.wgsl_model_tidy.specs.LaidOut.{Spot, token, is_comment, operand_follows, next_role, may_break}
-use Rattle.wgsl_theory_tidy.proofs.Laid.{behind_token_at}
+use Rattle.wgsl_theory_tidy.proofs.Laid.{after_token_at}
 
 abbrev pub settle : Style → Style
 settle item_by_item = as_written
@@ -118,38 +118,38 @@ settled_if : (b : Bool) (x y : Open) → settled_open (cond b x y) ≡ cond b (s
 settled_if true x y = refl
 settled_if false x y = refl
 
-settled_behind : (state : LayoutState) (line : ℕ) (right : Role) (style : Style)
-    → opened_behind (settled_state state) line right (settle style)
-    ≡ settled_opened (opened_behind state line right style)
-settled_behind state line block_start style =
+settled_after : (state : LayoutState) (line : ℕ) (right : Role) (style : Style)
+    → opened_after_token (settled_state state) line right (settle style)
+    ≡ settled_opened (opened_after_token state line right style)
+settled_after state line block_start style =
     ap₂ (λ (kind : Open) (depth : ℕ). (kind, depth) ∷ settled_opened state.opened)
     (sym (settled_if state.structure members block)) (settled_inner state.opened)
-settled_behind state line opening style =
+settled_after state line opening style =
     ap (λ (kind : Open). (kind, line) ∷ settled_opened state.opened)
     (sym (settled_if (is state.last attribute) (arguments style) (bracket style)))
-settled_behind state line template_start style = refl
-settled_behind state line closing style = settled_drop state.opened
-settled_behind state line template_end style = settled_drop state.opened
-settled_behind state line block_end style = settled_drop state.opened
-settled_behind state line right style = refl
+settled_after state line template_start style = refl
+settled_after state line closing style = settled_drop state.opened
+settled_after state line template_end style = settled_drop state.opened
+settled_after state line block_end style = settled_drop state.opened
+settled_after state line right style = refl
 
-settled_last : (state : LayoutState) (right : Role) → last_behind (settled_state state) right ≡ last_behind state right
+settled_last : (state : LayoutState) (right : Role) → last_after (settled_state state) right ≡ last_after state right
 settled_last state right =
     rw (settled_arguments state.opened, settled_members state.opened, settled_brackets state.opened) refl
 
 pub settled_token : (state : LayoutState) (depth class : ℕ) (right : Role) (column : ℕ) (style : Style)
-    → behind_token_at (settled_state state) depth class right column (settle style)
-    ≡ settled (behind_token_at state depth class right column style)
+    → after_token_at (settled_state state) depth class right column (settle style)
+    ≡ settled (after_token_at state depth class right column style)
 settled_token state depth class right column style =
     let spot : Opened → Role → Spot = λ opened last. record {
       state = record {
         opened = opened;
         line = depth;
         last = last;
-        leading = leading_behind state right;
-        structure = structure_behind state class right;
+        leading = leading_after state right;
+        structure = structure_after state class right;
       };
       last = token;
       column = column;
     } in
-    ap₂ spot (settled_behind state depth right style) (settled_last state right)
+    ap₂ spot (settled_after state depth right style) (settled_last state right)

@@ -1,11 +1,11 @@
--- What stands between two tokens where brackets that were written item by item keep their lines as
+-- What is between two tokens where brackets that were written item by item keep their lines as
 -- they are: a line may end where one ended after an item.
 use Rattle.std.proofs.Common.{◌≡◌, ◌||◌, Bool, true, false, cond, refl, sym, ap}
 use Rattle.std.proofs.lemmas.Bool.{true≢false}
 use Rattle.wgsl_model_tidy.specs.Roles.{Role, comma, semicolon, block_end, is, opens_bracket, closes_bracket}
 use Rattle.wgsl_model_tidy.specs.Joints.{Joint, line, nothing, space, nothing_or_line, space_or_line, joint_in_lines, ended, joint}
 use Rattle.wgsl_model_tidy.specs.Open.{Enclosing, no_bracket, one_line, own_lines, item_lines}
-use Rattle.wgsl_model_tidy.specs.LaidOut.{is_line, closes_up, loose_joint, behind_comment, behind_leading}
+use Rattle.wgsl_model_tidy.specs.LaidOut.{is_line, closes_up, loose_joint, after_comment, after_leading}
 use Rattle.wgsl_theory_tidy.proofs.Kept.Settled.{settled_enclosing}
 
 -- between two tokens: the same, or a line end that may be there
@@ -61,10 +61,10 @@ loose_settles right = go (closes_up right)
     go false = spaced
 
 pub comment_settles : (right : Role) (j k : Joint) → Loosens right j k
-    → Settles (behind_comment j right) (behind_comment k right)
-comment_settles right _ _ (same_joint j) = same (behind_comment j right)
+    → Settles (after_comment j right) (after_comment k right)
+comment_settles right _ _ (same_joint j) = same (after_comment j right)
 comment_settles right _ _ (loosened h) = loose_settles right
 
-pub leading_same : (right : Role) (j k : Joint) → Loosens right j k → behind_leading k right ≡ behind_leading j right
+pub leading_same : (right : Role) (j k : Joint) → Loosens right j k → after_leading k right ≡ after_leading j right
 leading_same right _ _ (same_joint j) = refl
 leading_same right _ _ (loosened h) = ap (λ c. cond (is right block_end || c) line (loose_joint right)) (sym h)

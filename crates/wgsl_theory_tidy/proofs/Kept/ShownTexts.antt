@@ -10,7 +10,7 @@ use Rattle.wgsl_model_tidy.specs.Pieces.{Piece, OpenComment}
 use Rattle.wgsl_model_tidy.specs.NonBlank.{non_blank}
 use Rattle.wgsl_model_tidy.specs.Shown.{without_returns, is_space, has_stars, with_front, block_shown, shown}
 use Rattle.wgsl_model_tidy.specs.Layout.{Layout}
-use Rattle.wgsl_model_tidy.specs.LaidOut.{Gap, Spot, indentation, begins_line, depth_behind, piece_text, is_comment}
+use Rattle.wgsl_model_tidy.specs.LaidOut.{Gap, Spot, indentation, begins_line, depth_after, piece_text, is_comment}
 use Rattle.wgsl_theory_tidy.proofs.Comments.{piece}
 use Rattle.wgsl_theory_tidy.proofs.Levels.{IsIndent, no_indent, one_space, one_tab, both_indents, indentation_indent}
 use Rattle.wgsl_theory_tidy.proofs.Kept.Bodies.{IsBody, first_same, body_without_returns, body_with_front}
@@ -345,17 +345,17 @@ front_indent_of layout depth = both_indents (indentation layout depth) (codes " 
 pub text_non_blank : (layout : Layout) (spot : Spot) (gap : Gap) (p : Piece)
     → non_blank (piece_text layout spot gap p) ≡ non_blank p.text
 text_non_blank layout spot gap p = non_blank_shown _
-    (front_indent_of layout (depth_behind gap spot.state.line))
+    (front_indent_of layout (depth_after gap spot.state.line))
     (begins_line gap spot.last spot.state.last) p
 
 pub text_again : (layout : Layout) (spot : Spot) (gap : Gap) (p : Piece)
     → piece_text layout spot gap (piece p.class (piece_text layout spot gap p) 0) ≡ piece_text layout spot gap p
-text_again layout spot gap p = shown_again _ (front_indent_of layout (depth_behind gap spot.state.line))
+text_again layout spot gap p = shown_again _ (front_indent_of layout (depth_after gap spot.state.line))
     (begins_line gap spot.last spot.state.last) p
 
 pub text_kept : (layout : Layout) (spot : Spot) (gap : Gap) (p : Piece)
     → shown [] true (piece p.class (piece_text layout spot gap p) 0) ≡ shown [] true p
-text_kept layout spot gap p = shown_kept _ (front_indent_of layout (depth_behind gap spot.state.line))
+text_kept layout spot gap p = shown_kept _ (front_indent_of layout (depth_after gap spot.state.line))
     [] (begins_line gap spot.last spot.state.last) p
 
 pub token_text : (layout : Layout) (spot : Spot) (gap : Gap) (class : ℕ) (text : List ℕ) (n : ℕ)
@@ -365,7 +365,7 @@ token_text layout spot gap class text n h = token_by_class _ (begins_line gap sp
 pub closed_text : (layout : Layout) (spot : Spot) (gap : Gap) (class : ℕ) (text : List ℕ) (n : ℕ)
     → Closed class text → Closed class (piece_text layout spot gap (piece class text n))
 closed_text layout spot gap class text n c = closed_by_class _
-    (front_indent_of layout (depth_behind gap spot.state.line))
+    (front_indent_of layout (depth_after gap spot.state.line))
     (begins_line gap spot.last spot.state.last) class text n c
 
 pub unclosed_text : (layout : Layout) (spot : Spot) (gap : Gap) (class : ℕ) (text : List ℕ) (n : ℕ)

@@ -1,4 +1,4 @@
--- What a text begins with: a comment, with what stands behind it, or none.
+-- What a text begins with: a comment, with what is after it, or none.
 use Rattle.std.proofs.Common.{◌≡◌, ℕ, zero, suc, ◌≤◌, ◌==◌, ◌&&◌, Bool, true, false, cond, refl, sym, ap, ◌∙◌, List, [], ◌∷◌, ◌++◌, length, length-append, arith}
 use Rattle.std.specs.Char.{is_whitespace}
 use Rattle.std.proofs.lemmas.Bool.{and_parts, eqb-true, true≢false}
@@ -33,7 +33,7 @@ neither false x y r e f g = g e
 no_longer : (p : Place) (text : List ℕ) → length (after_trivia p text) ≤ length text
 no_longer p text = ends_length text (after_trivia p text) (trivia-ends p text)
 
--- so behind a character it is shorter
+-- so after a character it is shorter
 pub no_rest : (p : Place) (x : ℕ) (r : List ℕ) → after_trivia p r ≡ x ∷ r → ⊥
 no_rest p x r e = omega (arith, ap length e, no_longer p r)
 

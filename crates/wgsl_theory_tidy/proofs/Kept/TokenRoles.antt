@@ -18,7 +18,7 @@ use Rattle.wgsl_theory_printed.proofs.Spelling.Split.{by_either}
 use Rattle.wgsl_theory_printed.proofs.Spelling.Spellings.{EndsAt}
 use Rattle.wgsl_theory_printed.proofs.Spelling.Signs.{begins_name, begins_number, one_of_three}
 use Rattle.wgsl_theory_printed.proofs.Spelling.Ends.{number_no_name, number_no_symbol}
-use Rattle.wgsl_theory_printed.proofs.Fits.PointBehind.{no_point_behind}
+use Rattle.wgsl_theory_printed.proofs.Fits.PointAfter.{no_point_after}
 use Rattle.wgsl_model_tidy.specs.Roles.{Role, name, unsuffixed, number, word, else_word, opening, closing, block_start, block_end, comma, semicolon, colon, period, at, minus, ampersand, prefix, binary, step, ends_operand, role_of}
 use Rattle.wgsl_model_tidy.specs.Open.{LayoutState, role_in}
 use Rattle.wgsl_theory_tidy.proofs.Kept.Alone.{paren_left_alone, paren_right_alone, bracket_left_alone, bracket_right_alone}
@@ -50,25 +50,25 @@ word_fits word x xs h b = (touching.is_word x xs b, or_left (begins_name x) (x =
 word_fits else_word x xs h b = (is_else x xs b, b)
 word_fits role x xs h b = absurd (true≢false (sym h))
 
-keyword_roles : (behind : Bool) → each_passes (λ w c. is_word_role (role_of behind c)) keywords ≡ true
-keyword_roles behind = refl
+keyword_roles : (following : Bool) → each_passes (λ w c. is_word_role (role_of following c)) keywords ≡ true
+keyword_roles following = refl
 
 -- the token of a word does what a word does
-word_role : (behind : Bool) (bytes : List ℕ) → is_word_role (role_of behind (kind_of_word bytes).class) ≡ true
-word_role behind bytes = by_underscore (bytes_eq bytes (codes "_"))
+word_role : (following : Bool) (bytes : List ℕ) → is_word_role (role_of following (kind_of_word bytes).class) ≡ true
+word_role following bytes = by_underscore (bytes_eq bytes (codes "_"))
   where
     by_reserved : (b : Bool)
-        → is_word_role (role_of behind (cond b (named ReservedWord bytes) (named Ident bytes)).class) ≡ true
+        → is_word_role (role_of following (cond b (named ReservedWord bytes) (named Ident bytes)).class) ≡ true
     by_reserved true = refl
     by_reserved false = refl
 
     by_keyword : (o : Option ℕ) → look_up keywords bytes ≡ o
-        → is_word_role (role_of behind (keyword_or_name o bytes).class) ≡ true
-    by_keyword (Some c) e = found_passes (λ w c. is_word_role (role_of behind c)) keywords bytes c
-        (keyword_roles behind) e
+        → is_word_role (role_of following (keyword_or_name o bytes).class) ≡ true
+    by_keyword (Some c) e = found_passes (λ w c. is_word_role (role_of following c)) keywords bytes c
+        (keyword_roles following) e
     by_keyword None e = by_reserved (is_word_among reserved_words bytes)
 
-    by_underscore : (b : Bool) → is_word_role (role_of behind
+    by_underscore : (b : Bool) → is_word_role (role_of following
         (cond b (plain SymUnderscore) (keyword_or_name (look_up keywords bytes) bytes)).class) ≡ true
     by_underscore true = refl
     by_underscore false = by_keyword (look_up keywords bytes) refl
@@ -81,7 +81,7 @@ number_does c = if c == AbstractInt then unsuffixed else number
 
 -- a class whose tokens do what a number does
 abbrev IsNumberClass : ℕ → Type 0
-IsNumberClass c = (behind : Bool) → role_of behind c ≡ number_does c
+IsNumberClass c = (following : Bool) → role_of following c ≡ number_does c
 
 below_role : (class limit n : ℕ) (k : Kind) → IsNumberClass class
     → number_below class limit n ≡ Some k → IsNumberClass k.class
@@ -131,7 +131,7 @@ ends_at_point : (x : ℕ) (xs : List ℕ) (k : Kind) → number_of (x ∷ xs) �
     → (k.class == AbstractInt) ≡ false → begins_number x ≡ true → EndsAt (x ∷ xs) 46
 ends_at_point x xs k v a b z h =
     one_of_three ((x ∷ xs) ++ (46 ∷ z)) h (λ s. number_no_name x (xs ++ (46 ∷ z)) b s)
-    (λ s. no_point_behind (x ∷ xs) k v a z s) (λ s. number_no_symbol x xs 46 z b s)
+    (λ s. no_point_after (x ∷ xs) k v a z s) (λ s. number_no_symbol x xs 46 z b s)
 
 number_fits : (x : ℕ) (xs : List ℕ) (k : Kind) → number_of (x ∷ xs) ≡ Some k
     → begins_number x ≡ true → Fits (number_does k.class) (x ∷ xs)
@@ -162,7 +162,7 @@ is_symbol binary w = not (is_empty w)
 is_symbol step w = bytes_eq (codes "++") w || bytes_eq (codes "--") w
 is_symbol role w = false
 
-symbol_roles : (behind : Bool) → each_passes (λ w c. is_symbol (role_of behind c) w) symbols ≡ true
+symbol_roles : (following : Bool) → each_passes (λ w c. is_symbol (role_of following c) w) symbols ≡ true
 symbol_roles true = refl
 symbol_roles false = refl
 
@@ -204,46 +204,46 @@ symbol_fits role w h = absurd (true≢false (sym h))
 
 -- ---- all of them
 
-valued_fits : (behind : Bool) (k : Kind) (w : List ℕ) → kind_of_spelling w ≡ Some k → Fits (role_of behind k.class) w
-valued_fits behind k [] h = absurd (cc)
-valued_fits behind k (x ∷ xs) h = by (begins_name x) (is_ascii_digit x || (x == 46 && not (is_empty xs))) refl refl h
+valued_fits : (following : Bool) (k : Kind) (w : List ℕ) → kind_of_spelling w ≡ Some k → Fits (role_of following k.class) w
+valued_fits following k [] h = absurd (cc)
+valued_fits following k (x ∷ xs) h = by (begins_name x) (is_ascii_digit x || (x == 46 && not (is_empty xs))) refl refl h
   where
     of_symbol : (o : Option ℕ) → look_up symbols (x ∷ xs) ≡ o → option_map plain o ≡ Some k
-        → Fits (role_of behind k.class) (x ∷ xs)
+        → Fits (role_of following k.class) (x ∷ xs)
     of_symbol None p q = absurd (cc)
     of_symbol (Some c) p q =
         let same : plain c ≡ k = cc in
-        let fits : Fits (role_of behind c) (x ∷ xs) = symbol_fits (role_of behind c) (x ∷ xs)
-        (found_passes (λ w d. is_symbol (role_of behind d) w) symbols (x ∷ xs) c (symbol_roles behind) p) in
-        subst (λ (kind : Kind). Fits (role_of behind kind.class) (x ∷ xs)) same fits
+        let fits : Fits (role_of following c) (x ∷ xs) = symbol_fits (role_of following c) (x ∷ xs)
+        (found_passes (λ w d. is_symbol (role_of following d) w) symbols (x ∷ xs) c (symbol_roles following) p) in
+        subst (λ (kind : Kind). Fits (role_of following kind.class) (x ∷ xs)) same fits
 
     by : (a b : Bool) → begins_name x ≡ a → (is_ascii_digit x || (x == 46 && not (is_empty xs))) ≡ b
         → cond a (Some (kind_of_word (encode_utf8_all (x ∷ xs)))) (cond b (number_of (x ∷ xs))
-        (option_map plain (look_up symbols (x ∷ xs)))) ≡ Some k → Fits (role_of behind k.class) (x ∷ xs)
+        (option_map plain (look_up symbols (x ∷ xs)))) ≡ Some k → Fits (role_of following k.class) (x ∷ xs)
     by true b e f v =
         let same : kind_of_word (encode_utf8_all (x ∷ xs)) ≡ k = cc in
-        let does : is_word_role (role_of behind k.class) ≡ true = subst (λ (kind : Kind).
-        is_word_role (role_of behind kind.class) ≡ true) same (word_role behind (encode_utf8_all (x ∷ xs))) in
-        word_fits (role_of behind k.class) x xs does e
+        let does : is_word_role (role_of following k.class) ≡ true = subst (λ (kind : Kind).
+        is_word_role (role_of following kind.class) ≡ true) same (word_role following (encode_utf8_all (x ∷ xs))) in
+        word_fits (role_of following k.class) x xs does e
     by false true e f v =
         let first = number_first x xs f in
-        subst (λ (role : Role). Fits role (x ∷ xs)) (sym (number_role (x ∷ xs) k v behind)) (number_fits x xs k v first)
+        subst (λ (role : Role). Fits role (x ∷ xs)) (sym (number_role (x ∷ xs) k v following)) (number_fits x xs k v first)
     by false false e f v = of_symbol (look_up symbols (x ∷ xs)) refl v
 
-token_shaped : (behind : Bool) (k : Kind) (w rest : List ℕ) → IsToken k w rest
-    → Shaped (role_of behind k.class) w ⊎ (k ≡ plain TemplateArgsEnd)
-token_shaped behind k w rest (is_word kind v more m s r) = inl (valued_fits behind k w s.valued).0
-token_shaped behind k w rest (is_slash more r) = inl (is_other binary 47 [] refl)
-token_shaped behind k w rest (is_slash_equal more r) = inl (is_other binary 47 (61 ∷ []) refl)
-token_shaped behind k w rest (is_start more) = inl is_less
-token_shaped behind k w rest (is_end more) = inr refl
+token_shaped : (following : Bool) (k : Kind) (w rest : List ℕ) → IsToken k w rest
+    → Shaped (role_of following k.class) w ⊎ (k ≡ plain TemplateArgsEnd)
+token_shaped following k w rest (is_word kind v more m s r) = inl (valued_fits following k w s.valued).0
+token_shaped following k w rest (is_slash more r) = inl (is_other binary 47 [] refl)
+token_shaped following k w rest (is_slash_equal more r) = inl (is_other binary 47 (61 ∷ []) refl)
+token_shaped following k w rest (is_start more) = inl is_less
+token_shaped following k w rest (is_end more) = inr refl
 
-pub token_starts : (behind : Bool) (k : Kind) (w rest : List ℕ) → IsToken k w rest → Starts (role_of behind k.class) w
-token_starts behind k w rest (is_word kind v more m s r) = (valued_fits behind k w s.valued).1
-token_starts behind k w rest (is_slash more r) = refl
-token_starts behind k w rest (is_slash_equal more r) = refl
-token_starts behind k w rest (is_start more) = refl
-token_starts behind k w rest (is_end more) = refl
+pub token_starts : (following : Bool) (k : Kind) (w rest : List ℕ) → IsToken k w rest → Starts (role_of following k.class) w
+token_starts following k w rest (is_word kind v more m s r) = (valued_fits following k w s.valued).1
+token_starts following k w rest (is_slash more r) = refl
+token_starts following k w rest (is_slash_equal more r) = refl
+token_starts following k w rest (is_start more) = refl
+token_starts following k w rest (is_end more) = refl
 
 -- an operator between operands may be any characters
 binary_fits : (role : Role) (w : List ℕ) → Starts role w → Fits binary w
@@ -255,21 +255,21 @@ pub shaped : (state : LayoutState) (k : Kind) (before_operand : Bool) (w rest : 
     → IsToken k w rest → Shaped (role_in state k.class before_operand) w ⊎ (k ≡ plain TemplateArgsEnd)
 shaped state k before_operand w rest t = go (k.class == SymMinusMinus && before_operand)
   where
-    behind : Bool
-    behind = ends_operand state.last
+    following : Bool
+    following = ends_operand state.last
 
-    go : (b : Bool) → Shaped (cond b binary (role_of behind k.class)) w ⊎ (k ≡ plain TemplateArgsEnd)
-    go true = inl (binary_fits (role_of behind k.class) w (token_starts behind k w rest t)).0
-    go false = token_shaped behind k w rest t
+    go : (b : Bool) → Shaped (cond b binary (role_of following k.class)) w ⊎ (k ≡ plain TemplateArgsEnd)
+    go true = inl (binary_fits (role_of following k.class) w (token_starts following k w rest t)).0
+    go false = token_shaped following k w rest t
 
 -- and with which one it begins
 pub starts_so : (state : LayoutState) (k : Kind) (before_operand : Bool) (w rest : List ℕ)
     → IsToken k w rest → Starts (role_in state k.class before_operand) w
 starts_so state k before_operand w rest t = go (k.class == SymMinusMinus && before_operand)
   where
-    behind : Bool
-    behind = ends_operand state.last
+    following : Bool
+    following = ends_operand state.last
 
-    go : (b : Bool) → Starts (cond b binary (role_of behind k.class)) w
-    go true = (binary_fits (role_of behind k.class) w (token_starts behind k w rest t)).1
-    go false = token_starts behind k w rest t
+    go : (b : Bool) → Starts (cond b binary (role_of following k.class)) w
+    go true = (binary_fits (role_of following k.class) w (token_starts following k w rest t)).1
+    go false = token_starts following k w rest t

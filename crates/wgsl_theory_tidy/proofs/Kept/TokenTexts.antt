@@ -1,4 +1,4 @@
--- The characters of the token at the front of a text, behind blank space and comments.
+-- The characters of the token at the front of a text, after blank space and comments.
 use Rattle.std.proofs.Common.{◌≡◌, inl, inr, ℕ, ◌==◌, Bool, true, false, refl, sym, ap, subst, ◌∙◌, List, [], ◌∷◌, ◌++◌, drop, Option, Some, None, arith}
 use Rattle.std.proofs.lemmas.Bool.{eqb-true, false_from_ne_true}
 use Rattle.wgsl_model.proofs.Tokens.Fronts.{front-append}
@@ -15,12 +15,12 @@ use Rattle.wgsl_theory_templates.proofs.Lexed.RawClasses.{raw_unmarked}
 use Rattle.wgsl_theory_templates.proofs.Reaching.Reach.{role}
 use Rattle.wgsl_theory_templates.proofs.Lexed.RoleClasses.{is_mark_role}
 use Rattle.wgsl_theory_printed.proofs.Spelling.Cut.{longest_spelling}
-use Rattle.wgsl_theory_grammar.proofs.Tokens.Bare.{IsBare, behind_trivia, over_blank}
+use Rattle.wgsl_theory_grammar.proofs.Tokens.Bare.{IsBare, bare_after_trivia, over_blank}
 use Rattle.wgsl_theory_grammar.proofs.Tokens.Cuts.{trivia-ends, ends_length}
 use Rattle.wgsl_theory_tidy.proofs.Kept.Readings.{IsToken, is_word, is_slash, is_slash_equal, is_start, is_end}
 use Rattle.wgsl_theory_tidy.proofs.Kept.Signs.{less_text, greater_text, slash_text, IsSlash}
 
--- ---- behind blank space and comments
+-- ---- after blank space and comments
 
 -- so the first character is not blank
 pub bare_solid : (c : ℕ) (cs : List ℕ) → IsBare (c ∷ cs) → is_blank c ≡ false
@@ -58,7 +58,7 @@ spelled_text (Some rest) c cs from after k e h =
     record {
       word = found.0;
       here = at.0;
-      whole = found.1.whole ∙ ap (λ behind. found.0 ++ behind) at.1;
+      whole = found.1.whole ∙ ap (λ following. found.0 ++ following) at.1;
       valued = ap kind_of_spelling (sym word)
           ∙ valued_kind (kind_of_spelling (front (c ∷ cs) rest)) (c ∷ cs) rest from after k h;
       spelled = found.1.passes;
@@ -68,7 +68,7 @@ raw_at_text : (text from after : List ℕ) (k : Kind) → raw_at text ≡ token 
 raw_at_text [] from after k h = absurd (cc)
 raw_at_text (c ∷ cs) from after k h = spelled_text (after_spelling spelling (c ∷ cs)) c cs from after k refl h
 
--- a spelling that stands at the front of a text with nothing before it
+-- a spelling that is at the front of a text with nothing before it
 slash_token : (cs rest : List ℕ) (k : Kind) → IsSlash (47 ∷ cs) k
     → raw ((47 ∷ cs) ++ rest) ≡ token k ((47 ∷ cs) ++ rest) rest → IsToken k (47 ∷ cs) rest
 slash_token cs rest k (inl h) e =
@@ -96,7 +96,7 @@ word_token (c ∷ cs) rest k m s v b e = go (c == 47) refl
     go false f = is_word k (c ∷ cs) rest m
         (record { spelled = s; valued = v; begins = (bare_solid c (cs ++ rest) b, f) }) e
 
--- ---- what stands before a token, and its characters
+-- ---- what is before a token, and its characters
 
 pub record TokenCut (text : List ℕ) (k : Kind) (from rest : List ℕ) : Type 0 where
   pub trivia : List ℕ
@@ -106,7 +106,7 @@ pub record TokenCut (text : List ℕ) (k : Kind) (from rest : List ℕ) : Type 0
   pub passed : after_trivia outside text ≡ from
   pub is_token : IsToken k word rest
 
--- where the characters begin, by those of the token that stands there
+-- where the characters begin, by those of the token that is there
 cut_from : (text from rest : List ℕ) (k : Kind) (word : List ℕ) → after_trivia outside text ≡ from
     → from ≡ word ++ rest → IsToken k word rest → TokenCut text k from rest
 cut_from text from rest k word p b t =
@@ -124,12 +124,12 @@ front_text : (text from after : List ℕ) (k : Kind) → raw text ≡ token k fr
     → Spelled (after_trivia outside text) k from after
 front_text text from after k e = raw_at_text (after_trivia outside text) from after k e
 
--- a token as it stands
+-- a token as it is
 pub cut_token : (text from after : List ℕ) (k : Kind) → raw text ≡ token k from after → TokenCut text k from after
 cut_token text from after k e =
     let s = front_text text from after k e in
     let here : from ≡ s.word ++ after = s.here ∙ s.whole in
-    let bare : IsBare from = subst IsBare (sym s.here) (behind_trivia outside text) in
+    let bare : IsBare from = subst IsBare (sym s.here) (bare_after_trivia outside text) in
     let again : raw from ≡ token k from after = ap raw_at bare ∙ ap raw_at s.here ∙ e in
     cut_from text from after k s.word (sym s.here) here
     (word_token s.word after k (raw_unmarked text from after k e) s.spelled s.valued
@@ -168,5 +168,5 @@ at_none : (text : List ℕ) → raw_at text ≡ none_left → text ≡ []
 at_none [] e = refl
 at_none (c ∷ cs) e = absurd (spelled_some (c ∷ cs) cs (after_spelling spelling (c ∷ cs)) e)
 
-pub none_behind : (text : List ℕ) → raw text ≡ none_left → after_trivia outside text ≡ []
-none_behind text e = at_none (after_trivia outside text) e
+pub none_after : (text : List ℕ) → raw text ≡ none_left → after_trivia outside text ≡ []
+none_after text e = at_none (after_trivia outside text) e

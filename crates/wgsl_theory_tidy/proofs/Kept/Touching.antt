@@ -1,4 +1,4 @@
--- Which tokens may stand behind one another with nothing between: those that the rules close up.
+-- Which tokens may be after one another with nothing between: those that the rules close up.
 use Rattle.std.proofs.Common.{◌≡◌, ℕ, ◌==◌, ◌||◌, Bool, true, false, refl, sym, subst, ◌∙◌, List, [], ◌∷◌, ◌++◌, lit<}
 use Rattle.std.proofs.lemmas.Bool.{true≢false, eqb-true}
 use Rattle.unicode_ident.proofs.IdentLemmas.{is_xid_start-ascii, is_xid_continue-ascii}
@@ -48,7 +48,7 @@ at_one P d c e h = subst P (sym (eqb-true d c e)) h
 at_two : (P : ℕ → Type 0) (d a b : ℕ) → (d == a || d == b) ≡ true → P a → P b → P d
 at_two P d a b e h k = by_either (d == a) (d == b) e (λ f. at_one P d a f h) (λ f. at_one P d b f k)
 
--- ---- behind a token of any kind: `,` `;` `:` `)` `]` `(` `[`
+-- ---- after a token of any kind: `,` `;` `:` `)` `]` `(` `[`
 
 tight_ends : (x : ℕ) (xs : List ℕ) (right : Role) (d : ℕ) → closed_up attribute right ≡ true
     → starts right d ≡ true → EndsAt (x ∷ xs) d
@@ -61,7 +61,7 @@ tight_ends x xs opening d h s = at_two (EndsAt (x ∷ xs)) d 40 91 s
     (alone_ends 40 x xs paren_left_alone) (alone_ends 91 x xs bracket_left_alone)
 tight_ends x xs right d h s = absurd (true≢false (sym h))
 
--- ---- behind a name, a keyword or `_`
+-- ---- after a name, a keyword or `_`
 
 name_ends : (x : ℕ) (xs : List ℕ) (d : ℕ) → begins_name x ≡ true → takes d identifier ≡ false → EndsAt (x ∷ xs) d
 name_ends x xs d b e z h =
@@ -83,21 +83,21 @@ plus_ends = rw (is_xid_start-ascii 43 (lit< tt), is_xid_continue-ascii 43 (lit< 
 minus_ends : takes 45 identifier ≡ false
 minus_ends = rw (is_xid_start-ascii 45 (lit< tt), is_xid_continue-ascii 45 (lit< tt)) refl
 
-behind_name : (x : ℕ) (xs : List ℕ) → begins_name x ≡ true → (right : Role) (d : ℕ)
+after_name : (x : ℕ) (xs : List ℕ) → begins_name x ≡ true → (right : Role) (d : ℕ)
     → closed_up name right ≡ true → starts right d ≡ true → EndsAt (x ∷ xs) d
-behind_name x xs b comma d h s = tight_ends x xs comma d refl s
-behind_name x xs b semicolon d h s = tight_ends x xs semicolon d refl s
-behind_name x xs b colon d h s = tight_ends x xs colon d refl s
-behind_name x xs b closing d h s = tight_ends x xs closing d refl s
-behind_name x xs b opening d h s = tight_ends x xs opening d refl s
-behind_name x xs b template_start d h s = at_one (EndsAt (x ∷ xs)) d 60 s (name_ends x xs 60 b less_ends)
-behind_name x xs b template_end d h s = at_one (EndsAt (x ∷ xs)) d 62 s (name_ends x xs 62 b greater_ends)
-behind_name x xs b period d h s = at_one (EndsAt (x ∷ xs)) d 46 s (name_ends x xs 46 b identifier_takes_none)
-behind_name x xs b step d h s = at_two (EndsAt (x ∷ xs)) d 43 45 s (name_ends x xs 43 b plus_ends)
+after_name x xs b comma d h s = tight_ends x xs comma d refl s
+after_name x xs b semicolon d h s = tight_ends x xs semicolon d refl s
+after_name x xs b colon d h s = tight_ends x xs colon d refl s
+after_name x xs b closing d h s = tight_ends x xs closing d refl s
+after_name x xs b opening d h s = tight_ends x xs opening d refl s
+after_name x xs b template_start d h s = at_one (EndsAt (x ∷ xs)) d 60 s (name_ends x xs 60 b less_ends)
+after_name x xs b template_end d h s = at_one (EndsAt (x ∷ xs)) d 62 s (name_ends x xs 62 b greater_ends)
+after_name x xs b period d h s = at_one (EndsAt (x ∷ xs)) d 46 s (name_ends x xs 46 b identifier_takes_none)
+after_name x xs b step d h s = at_two (EndsAt (x ∷ xs)) d 43 45 s (name_ends x xs 43 b plus_ends)
     (name_ends x xs 45 b minus_ends)
-behind_name x xs b right d h s = absurd (true≢false (sym h))
+after_name x xs b right d h s = absurd (true≢false (sym h))
 
--- another word: what stands closed up behind it does so behind a name
+-- another word: what is closed up after it does so after a name
 word_is_closed_up : (right : Role) → closed_up word right ≡ true → closed_up name right ≡ true
 word_is_closed_up comma h = refl
 word_is_closed_up semicolon h = refl
@@ -113,7 +113,7 @@ else_is_closed_up colon h = refl
 else_is_closed_up closing h = refl
 else_is_closed_up right h = absurd (true≢false (sym h))
 
--- ---- behind a number
+-- ---- after a number
 
 after_unsuffixed : (x : ℕ) (xs : List ℕ) → begins_number x ≡ true → (right : Role) (d : ℕ)
     → closed_up unsuffixed right ≡ true → starts right d ≡ true → EndsAt (x ∷ xs) d
@@ -137,7 +137,7 @@ after_number x xs b p opening d h s = tight_ends x xs opening d refl s
 after_number x xs b p template_end d h s = at_one (EndsAt (x ∷ xs)) d 62 s (number_ends_before x xs (62 ∷ []) b refl)
 after_number x xs b p right d h s = absurd (true≢false (sym h))
 
--- ---- behind a sign before an operand
+-- ---- after a sign before an operand
 
 -- a character with which no name and no number begins is not the first of one
 not_first : (f : ℕ → Bool) (d k : ℕ) → f d ≡ true → f k ≡ false → (d == k) ≡ false
@@ -208,7 +208,7 @@ plus_plus_touches d = sign_ends_before 43 (43 ∷ []) (d ∷ []) plus_no_name re
 minus_minus_touches : (d : ℕ) → EndsAt (45 ∷ (45 ∷ [])) d
 minus_minus_touches d = sign_ends_before 45 (45 ∷ []) (d ∷ []) minus_no_name refl refl
 
--- ---- behind each role
+-- ---- after each role
 
 -- the first character of an operand
 joins : (right : Role) (d : ℕ) → begins_operand right ≡ true → starts right d ≡ true → JoinsNothing d
@@ -221,7 +221,7 @@ joins ampersand d h s = test_joins (λ x. x == 38) d s refl refl refl
 joins prefix d h s = test_joins (λ x. x == 33 || (x == 126 || x == 42)) d s refl refl refl
 joins right d h s = absurd (true≢false (sym h))
 
--- what stands close behind `-` does not begin with it, and so with `&`
+-- what is close after `-` does not begin with it, and so with `&`
 no_minus : (right : Role) → closed_up minus right ≡ true → starts right 45 ≡ false
 no_minus name h = minus_no_name
 no_minus right h = cc
@@ -230,51 +230,51 @@ no_and : (right : Role) → closed_up ampersand right ≡ true → starts right 
 no_and name h = and_no_name
 no_and right h = cc
 
--- an operand, or what nothing stands before
+-- an operand, or what nothing is before
 data Follows (right : Role) : Type 0 where
   operand : begins_operand right ≡ true → Follows right
   tight : closed_up attribute right ≡ true → Follows right
 
-behind_sign : (left right : Role) → wants_operand left ≡ true → closed_up left right ≡ true → Follows right
-behind_sign left comma w h = tight refl
-behind_sign left semicolon w h = tight refl
-behind_sign left colon w h = tight refl
-behind_sign left closing w h = tight refl
-behind_sign left name w h = operand refl
-behind_sign left unsuffixed w h = operand refl
-behind_sign left number w h = operand refl
-behind_sign left opening w h = operand refl
-behind_sign left minus w h = operand refl
-behind_sign left ampersand w h = operand refl
-behind_sign left prefix w h = operand refl
-behind_sign template_start right w h = absurd (true≢false (sym h))
-behind_sign minus right w h = absurd (true≢false (sym h))
-behind_sign ampersand right w h = absurd (true≢false (sym h))
-behind_sign prefix right w h = absurd (true≢false (sym h))
-behind_sign left right w h = absurd (true≢false (sym w))
+after_sign : (left right : Role) → wants_operand left ≡ true → closed_up left right ≡ true → Follows right
+after_sign left comma w h = tight refl
+after_sign left semicolon w h = tight refl
+after_sign left colon w h = tight refl
+after_sign left closing w h = tight refl
+after_sign left name w h = operand refl
+after_sign left unsuffixed w h = operand refl
+after_sign left number w h = operand refl
+after_sign left opening w h = operand refl
+after_sign left minus w h = operand refl
+after_sign left ampersand w h = operand refl
+after_sign left prefix w h = operand refl
+after_sign template_start right w h = absurd (true≢false (sym h))
+after_sign minus right w h = absurd (true≢false (sym h))
+after_sign ampersand right w h = absurd (true≢false (sym h))
+after_sign prefix right w h = absurd (true≢false (sym h))
+after_sign left right w h = absurd (true≢false (sym w))
 
 by_follows : (x : ℕ) (xs : List ℕ) (right : Role) (d : ℕ) → starts right d ≡ true → Follows right
     → (JoinsNothing d → EndsAt (x ∷ xs) d) → EndsAt (x ∷ xs) d
 by_follows x xs right d s (operand o) f = f (joins right d o s)
 by_follows x xs right d s (tight t) f = tight_ends x xs right d t s
 
-behind_less : (right : Role) (d : ℕ) → closed_up template_start right ≡ true → starts right d ≡ true
+after_less : (right : Role) (d : ℕ) → closed_up template_start right ≡ true → starts right d ≡ true
     → EndsAt (60 ∷ []) d
-behind_less right d h s = by_follows 60 [] right d s (behind_sign template_start right refl h) (less_touches d)
+after_less right d h s = by_follows 60 [] right d s (after_sign template_start right refl h) (less_touches d)
 
-behind_minus : (right : Role) (d : ℕ) → closed_up minus right ≡ true → starts right d ≡ true → EndsAt (45 ∷ []) d
-behind_minus right d h s = by_follows 45 [] right d s (behind_sign minus right refl h)
+after_minus : (right : Role) (d : ℕ) → closed_up minus right ≡ true → starts right d ≡ true → EndsAt (45 ∷ []) d
+after_minus right d h s = by_follows 45 [] right d s (after_sign minus right refl h)
     (λ j. minus_touches d j (not_first (starts right) d 45 s (no_minus right h)))
 
-behind_and : (right : Role) (d : ℕ) → closed_up ampersand right ≡ true → starts right d ≡ true → EndsAt (38 ∷ []) d
-behind_and right d h s = by_follows 38 [] right d s (behind_sign ampersand right refl h)
+after_and : (right : Role) (d : ℕ) → closed_up ampersand right ≡ true → starts right d ≡ true → EndsAt (38 ∷ []) d
+after_and right d h s = by_follows 38 [] right d s (after_sign ampersand right refl h)
     (λ j. and_touches d j (not_first (starts right) d 38 s (no_and right h)))
 
-behind_bang : (right : Role) (d : ℕ) → closed_up prefix right ≡ true → starts right d ≡ true → EndsAt (33 ∷ []) d
-behind_bang right d h s = by_follows 33 [] right d s (behind_sign prefix right refl h) (bang_touches d)
+after_bang : (right : Role) (d : ℕ) → closed_up prefix right ≡ true → starts right d ≡ true → EndsAt (33 ∷ []) d
+after_bang right d h s = by_follows 33 [] right d s (after_sign prefix right refl h) (bang_touches d)
 
-behind_star : (right : Role) (d : ℕ) → closed_up prefix right ≡ true → starts right d ≡ true → EndsAt (42 ∷ []) d
-behind_star right d h s = by_follows 42 [] right d s (behind_sign prefix right refl h) (star_touches d)
+after_star : (right : Role) (d : ℕ) → closed_up prefix right ≡ true → starts right d ≡ true → EndsAt (42 ∷ []) d
+after_star right d h s = by_follows 42 [] right d s (after_sign prefix right refl h) (star_touches d)
 
 point_ends : (c : ℕ) → begins_name c ≡ true → EndsAt (46 ∷ []) c
 point_ends c b z h =
@@ -284,13 +284,13 @@ point_ends c b z h =
     (λ k. true≢false (sym k ∙ point_number c z (no_digit c b)))
     (λ k. no_longer_symbol (46 ∷ []) c refl z k)
 
-behind_period : (right : Role) (d : ℕ) → closed_up period right ≡ true → starts right d ≡ true → EndsAt (46 ∷ []) d
-behind_period name d h s = point_ends d s
-behind_period comma d h s = tight_ends 46 [] comma d refl s
-behind_period semicolon d h s = tight_ends 46 [] semicolon d refl s
-behind_period colon d h s = tight_ends 46 [] colon d refl s
-behind_period closing d h s = tight_ends 46 [] closing d refl s
-behind_period right d h s = absurd (true≢false (sym h))
+after_period : (right : Role) (d : ℕ) → closed_up period right ≡ true → starts right d ≡ true → EndsAt (46 ∷ []) d
+after_period name d h s = point_ends d s
+after_period comma d h s = tight_ends 46 [] comma d refl s
+after_period semicolon d h s = tight_ends 46 [] semicolon d refl s
+after_period colon d h s = tight_ends 46 [] colon d refl s
+after_period closing d h s = tight_ends 46 [] closing d refl s
+after_period right d h s = absurd (true≢false (sym h))
 
 arrow_touches : (d : ℕ) → EndsAt (45 ∷ (62 ∷ [])) d
 arrow_touches d = sign_ends_before 45 (62 ∷ []) (d ∷ []) minus_no_name refl refl
@@ -309,7 +309,7 @@ is_tight_only item_end = true
 is_tight_only attribute = true
 is_tight_only role = false
 
--- behind one of these stands closed up only what does so behind a token of any kind
+-- after one of these is closed up only what does so after a token of any kind
 pub tight_only : (left right : Role) → is_tight_only left ≡ true → closed_up left right ≡ true
     → closed_up attribute right ≡ true
 tight_only attribute right t h = h
@@ -349,26 +349,26 @@ pub data Shaped : Role → List ℕ → Type 0 where
   is_period : Shaped period (46 ∷ [])
   is_other : (left : Role) (x : ℕ) (xs : List ℕ) → is_tight_only left ≡ true → Shaped left (x ∷ xs)
 
--- No token begins with a token and the first character of another that is closed up behind it.
+-- No token begins with a token and the first character of another that is closed up after it.
 pub touches : (left right : Role) (w : List ℕ) (d : ℕ) → Shaped left w → closed_up left right ≡ true
     → starts right d ≡ true → EndsAt w d
-touches left right w d (is_name x xs b) h s = behind_name x xs b right d h s
-touches left right w d (is_word x xs b) h s = behind_name x xs b right d (word_is_closed_up right h) s
+touches left right w d (is_name x xs b) h s = after_name x xs b right d h s
+touches left right w d (is_word x xs b) h s = after_name x xs b right d (word_is_closed_up right h) s
 touches left right w d (is_arrow) h s = arrow_touches d
-touches left right w d (is_else x xs b) h s = behind_name x xs b right d (else_is_closed_up right h) s
+touches left right w d (is_else x xs b) h s = after_name x xs b right d (else_is_closed_up right h) s
 touches left right w d (is_unsuffixed x xs b) h s = after_unsuffixed x xs b right d h s
 touches left right w d (is_number x xs b p) h s = after_number x xs b p right d h s
 touches left right w d (is_opening c a) h s = alone_before c d a
 touches left right w d (is_closing c a) h s = alone_before c d a
 touches left right w d (is_comma) h s = alone_before 44 d comma_alone
 touches left right w d (is_at) h s = alone_before 64 d at_alone
-touches left right w d (is_less) h s = behind_less right d h s
-touches left right w d (is_minus) h s = behind_minus right d h s
-touches left right w d (is_and) h s = behind_and right d h s
-touches left right w d (is_bang) h s = behind_bang right d h s
-touches left right w d (is_star) h s = behind_star right d h s
+touches left right w d (is_less) h s = after_less right d h s
+touches left right w d (is_minus) h s = after_minus right d h s
+touches left right w d (is_and) h s = after_and right d h s
+touches left right w d (is_bang) h s = after_bang right d h s
+touches left right w d (is_star) h s = after_star right d h s
 touches left right w d (is_tilde) h s = alone_before 126 d tilde_alone
 touches left right w d (is_plus_plus) h s = plus_plus_touches d
 touches left right w d (is_minus_minus) h s = minus_minus_touches d
-touches left right w d (is_period) h s = behind_period right d h s
+touches left right w d (is_period) h s = after_period right d h s
 touches left right w d (is_other role x xs t) h s = tight_ends x xs right d (tight_only left right t h) s

@@ -1,4 +1,4 @@
--- The comments in the blank space and comments before a token, and in those behind the last token.
+-- The comments in the blank space and comments before a token, and in those after the last token.
 use Rattle.std.proofs.Common.{◌≡◌, ℕ, zero, suc, ◌+◌, ◌≤◌, ◌==◌, ◌&&◌, true, false, cond, refl, sym, ap, ◌∙◌, List, [], ◌∷◌, ◌++◌, length, length-append, append_assoc, append-nil, arith}
 use Rattle.wgsl_model.specs.Tokens.Characters.{is_blank}
 use Rattle.wgsl_model.specs.Tokens.ClassTable.{LineComment, BlockComment}
@@ -14,17 +14,17 @@ use Rattle.wgsl_theory_grammar.proofs.Tokens.Bare.{over_blank}
 
 -- ---- the comments of a text that is passed over up to a rest
 
--- comments that end, but where no rest stands the last may be one that is not closed
+-- comments that end, but where no rest is the last may be one that is not closed
 data Ends (r : List ℕ) : List Piece → Type 0 where
   no_comments : Ends r []
   then_comment : (p : Piece) (ps : List Piece) → Closed p.class p.text → Ends r ps → Ends r (p ∷ ps)
   then_open : (p : Piece) → Unclosed p.class p.text → r ≡ [] → Ends r (p ∷ [])
 
--- the comments of a text t, behind so many line ends and before a rest r; what else stands in it is
+-- the comments of a text t, after a number of line ends and before a rest r; what else is in it is
 -- blank
 abbrev Found : ℕ → List ℕ → List ℕ → Type 0
 Found n t r = (cs : List Piece) × (m : ℕ) × Ends r cs
-    × ((behind : ℕ → List Piece) → comments behind outside n t ≡ cs ++ behind m)
+    × ((following : ℕ → List Piece) → comments following outside n t ≡ cs ++ following m)
     × (non_blank t ≡ non_blank_of cs)
 
 -- over a character that begins no comment: it is blank, else it would be left too
@@ -61,7 +61,7 @@ over_other : (c : ℕ) (cs r : List ℕ) → is_blank c ≡ true → after_trivi
     → after_trivia outside (cs ++ r) ≡ r
 over_other c cs r b e = sym (over_blank c (cs ++ r) b) ∙ e
 
--- behind the sign of a line comment and behind that of a block comment
+-- after the sign of a line comment and after that of a block comment
 over_line_sign : (cs : List ℕ) → after_trivia outside (47 ∷ (47 ∷ cs)) ≡ after_trivia in_line cs
 unfolding after_trivia
 over_line_sign cs = refl
@@ -141,7 +141,7 @@ found_within (suc k) t r l e n = found_front k (found_within k) t r (front_of t)
 found : (t r : List ℕ) → after_trivia outside (t ++ r) ≡ r → (n : ℕ) → Found n t r
 found t r e n = found_within (length t) t r (omega arith) e n
 
--- ---- before a token, and behind the last
+-- ---- before a token, and after the last
 
 all_closed : (r : List ℕ) (cs : List Piece) → (r ≡ [] → ⊥) → Ends r cs → AllClosed cs
 all_closed r cs h (no_comments) = tt
@@ -153,17 +153,17 @@ closed_but_last r cs (no_comments) = no_more
 closed_but_last r cs (then_comment p ps c e) = one_more p ps c (closed_but_last r ps e)
 closed_but_last r cs (then_open p u e) = last_open p u
 
--- The pieces in what stands before a rest that is not empty are comments that end; so many line
--- ends stand behind the last of them.
+-- The pieces in what is before a rest that is not empty are comments that end; a number of line
+-- ends are after the last of them.
 pub trail : (t r : List ℕ) → after_trivia outside (t ++ r) ≡ r → (r ≡ [] → ⊥) → (n : ℕ)
-    → (cs : List Piece) × (m : ℕ) × AllClosed cs × ((behind : ℕ → List Piece)
-    → comments behind outside n t ≡ cs ++ behind m) × (non_blank t ≡ non_blank_of cs)
+    → (cs : List Piece) × (m : ℕ) × AllClosed cs × ((following : ℕ → List Piece)
+    → comments following outside n t ≡ cs ++ following m) × (non_blank t ≡ non_blank_of cs)
 trail t r e h n = let f = found t r e n in (f.0, f.1, all_closed r f.0 h f.2, f.3, f.4)
 
--- The same where no rest stands, but that the last piece may be a comment that is not closed.
+-- The same where no rest is, but that the last piece may be a comment that is not closed.
 pub last_trail : (t : List ℕ) → after_trivia outside t ≡ [] → (n : ℕ)
-    → (cs : List Piece) × (m : ℕ) × AllClosedButLast cs × ((behind : ℕ → List Piece)
-    → comments behind outside n t ≡ cs ++ behind m) × (non_blank t ≡ non_blank_of cs)
+    → (cs : List Piece) × (m : ℕ) × AllClosedButLast cs × ((following : ℕ → List Piece)
+    → comments following outside n t ≡ cs ++ following m) × (non_blank t ≡ non_blank_of cs)
 last_trail t e n =
     let f = found t [] (ap (after_trivia outside) (append-nil t) ∙ e) n in
     (f.0, f.1, closed_but_last [] f.0 f.2, f.3, f.4)

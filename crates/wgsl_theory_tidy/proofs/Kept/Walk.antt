@@ -8,21 +8,21 @@ use Rattle.wgsl_model.specs.Tokens.Raw.{Raw.token, raw}
 use Rattle.wgsl_model.specs.Tokens.Templates.{TemplateRelation, Inside, at_greater, at_opening, at_closing, at_template, at_other, enclosed, TemplateUpTo}
 use Rattle.wgsl_model.specs.Tokens.TokenList.{TokensOf, at_end, at_fault, before_template, before_more, place}
 use Rattle.wgsl_model.specs.Tokens.Trivia.{outside, after_trivia}
-use Rattle.wgsl_theory_tidy.proofs.Kept.TokenTexts.{TokenCut, cut_token, cut_start, cut_end, none_behind}
+use Rattle.wgsl_theory_tidy.proofs.Kept.TokenTexts.{TokenCut, cut_token, cut_start, cut_end, none_after}
 
--- a text that ends a source of so many bytes has these tokens one behind another
+-- a text that ends a source of a number of bytes has these tokens one after another
 pub data Walk (total : ℕ) : List ℕ → List Token → Type 0 where
   walk_end : (text : List ℕ) → after_trivia outside text ≡ [] → Walk total text []
   walk_token : (text from rest : List ℕ) (k : Kind) (ts : List Token) → TokenCut text k from rest
       → Walk total rest ts → Walk total text (placed k (place total from) (place total rest) ∷ ts)
 
--- a token as it stands
+-- a token as it is
 one_more : (total : ℕ) (text from after : List ℕ) (k : Kind) (ts : List Token)
     → raw text ≡ token k from after → Walk total after ts
     → Walk total text (placed k (place total from) (place total after) ∷ ts)
 one_more total text from after k ts r h = walk_token text from after k ts (cut_token text from after k r) h
 
--- template lists, with the tokens behind them
+-- template lists, with the tokens after them
 abbrev Walks : ℕ → TemplateRelation → Type 0
 Walks total R = (text : List ℕ) (us : List Token) (rest : List ℕ) (ts : List Token) → R text us rest
     → Walk total rest ts → Walk total text (us ++ ts)
@@ -31,7 +31,7 @@ Walks total R = (text : List ℕ) (us : List Token) (rest : List ℕ) (ts : List
 abbrev list_end : ℕ → List ℕ → Token
 list_end total end = placed (plain TemplateArgsEnd) (place total end) (place total (drop 1 end))
 
--- what stands inside a list, its `>` and the tokens behind it
+-- what is inside a list, its `>` and the tokens after it
 inside_walked : (total : ℕ) (R : TemplateRelation) → Walks total R
     → (depth : ℕ) (text : List ℕ) (us : List Token) (end : List ℕ) (ts : List Token)
     → Inside total R depth text us end → Walk total (drop 1 end) ts
@@ -59,7 +59,7 @@ template_walked (suc bound) total text us rest ts (enclosed t from after end k v
 -- the tokens of a text that has no fault
 pub walked : (total : ℕ) (text : List ℕ) (ts : List Token) (e : Ending) → e ≡ finished
     → TokensOf total text ts e → Walk total text ts
-walked total text ts e f (at_end t r) = walk_end text (none_behind text r)
+walked total text ts e f (at_end t r) = walk_end text (none_after text r)
 walked total text ts e f (at_fault t from after r) = absurd (cc)
 walked total text ts e f (before_template t from after rest k us vs g r c q h) =
     one_more total text from after k _ r

@@ -1,5 +1,5 @@
--- What it means that a value is derived wherever its tokens stand: tokens of the same kinds derive
--- a value that is the same, spans aside.
+-- What it means that a value is derived wherever its tokens are: tokens of the same kinds derive
+-- a value that is the same, ignoring spans.
 use Rattle.std.proofs.Common.{◌≡◌, List, map}
 use Rattle.std.specs.Option.{option_map}
 use Rattle.grammar.specs.Tokens.{Token}
@@ -68,6 +68,6 @@ abbrev pub Moves : {A : Type 0} → (A → List Token → List Token → Type 0)
 Moves P like v xs ys = (us : List Token) → map without_place us ≡ map without_place xs
     → Found P (λ w. like w v) us (map without_place ys)
 
--- a value that a symbol derives is derived wherever the tokens stand
+-- a value that a symbol derives is derived wherever the tokens are
 abbrev pub Moved : (n : Symbol) → Value n → List Token → List Token → Type 0
 Moved n v xs ys = Moves (D n) (Alike n) v xs ys

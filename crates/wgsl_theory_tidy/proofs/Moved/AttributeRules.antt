@@ -1,5 +1,5 @@
 -- What the rules of attributes, of `var` templates and of severities derive is derived wherever the
--- tokens stand.
+-- tokens are.
 use Rattle.std.proofs.Common.{◌≡◌, Bool, true, false, cond, List, map, Option, Some, None, refl, sym, ap, ◌∙◌}
 use Rattle.std.specs.Prelude.{◌==◌}
 use Rattle.grammar.specs.Tokens.{Span, Fault}

@@ -1,5 +1,5 @@
 -- Parts of expressions, and rules that RuleTerms leaves out, derive the same wherever the tokens
--- stand.
+-- are.
 use Rattle.std.proofs.Common.{◌≡◌, ℕ, Bool, true, false, cond, eqb, map, Some, None, refl, sym, ap, ◌∙◌}
 use Rattle.grammar.specs.Tokens.{Token, Span, Fault}
 use Rattle.grammar.specs.Grammar.{Grammar.symbol, Grammar.left_chain}
@@ -17,7 +17,7 @@ use Rattle.wgsl_model.specs.Grammar.Written.{written}
 use Rattle.wgsl_theory_reread.specs.CanonicalUnits.{without_place}
 use Rattle.wgsl_theory_reread.proofs.EachRule.ExpressionRules.{expressions_bare, template_bare, same_node, same_expression, same_unary_operator, same_operator, Operand, same_operand}
 use Rattle.wgsl_theory_tidy.proofs.Moved.Alike.{Alike}
-use Rattle.wgsl_theory_tidy.proofs.Moved.Ways.{MovesBy, token_moves, symbol_moves, then_moves, or_moves, gives_moves, makes_moves, check_moves, alike_moves, before_moves, behind_moves, means_moves, optional_moves, chain_moves}
+use Rattle.wgsl_theory_tidy.proofs.Moved.Ways.{MovesBy, token_moves, symbol_moves, then_moves, or_moves, gives_moves, makes_moves, check_moves, alike_moves, before_moves, after_moves, means_moves, optional_moves, chain_moves}
 
 -- ---- names
 -- two tokens without their places have one class and one text
@@ -64,11 +64,11 @@ node_moves G = makes_moves G (λ w v s r h. λ i. expression_node (h i) no_span)
 
 pub component_moves : MovesBy (written component) (Alike component)
 component_moves = or_moves
-    (gives_moves (before_moves SymBracketLeft (behind_moves SymBracketRight (symbol_moves expression)))
+    (gives_moves (before_moves SymBracketLeft (after_moves SymBracketRight (symbol_moves expression)))
     (λ w v h x y k. λ i. Expression.indexing (k i) (h i)))
     (gives_moves (before_moves SymPeriod name_moves) (λ w v h x y k. λ i. Expression.named_component (k i) (h i)))
 
--- components behind an expression
+-- components after an expression
 pub components_move : {g : Rule ExpressionNode} → MovesBy g same_node
     → MovesBy (left_chain with_component g (symbol component)) same_node
 components_move G = chain_moves G (symbol_moves component) (λ w v x y s r h k. λ i. expression_node (k w v h i) no_span)
@@ -94,7 +94,7 @@ pub operations_move : {f : ExpressionNode → Operand → Span → ExpressionNod
 operations_move G H t = chain_moves G H (λ w v x y s r h k. t w x s
     ∙ (λ i. expression_node (Expression.binary (k.0 i) (h i) (k.1 i)) no_span) ∙ sym (t v y r))
 
--- an operator and an operand behind an operand
+-- an operator and an operand after an operand
 pub operand_moves : {g : Rule BinaryOperator} {h : Rule ExpressionNode}
     → MovesBy g same_operator → MovesBy h same_node → MovesBy (g then h) same_operand
 operand_moves G H = then_moves G H
@@ -118,5 +118,5 @@ open_left_side_moves = or_moves
 pub parenthesized_left_side_moves : MovesBy parenthesized_left_side (Alike lhs_expression)
 parenthesized_left_side_moves =
     components_move
-    (makes_moves (before_moves SymParenLeft (behind_moves SymParenRight (symbol_moves lhs_expression)))
+    (makes_moves (before_moves SymParenLeft (after_moves SymParenRight (symbol_moves lhs_expression)))
     (λ w v s r h. λ i. expression_node (Expression.parenthesized (h i)) no_span))

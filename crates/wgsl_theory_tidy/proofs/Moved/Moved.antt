@@ -1,5 +1,5 @@
--- What a list of tokens derives does not hang on where they stand: tokens of the same kinds derive
--- the same value, spans aside.
+-- What a list of tokens derives does not depend on where they are: tokens of the same kinds derive
+-- the same value, ignoring spans.
 use Rattle.std.proofs.Common.{◌≡◌, List, [], map, subst}
 use Rattle.grammar.specs.Tokens.{Token}
 use Rattle.grammar.specs.Grammar.{Mode.checking, Derives}
@@ -16,7 +16,7 @@ use Rattle.wgsl_theory_reread.proofs.DerivedAgain.{none_left}
 use Rattle.wgsl_theory_tidy.proofs.Moved.Alike.{Alike, Moved}
 use Rattle.wgsl_theory_tidy.proofs.Moved.RuleTerms.{rules}
 
--- what a symbol derives is derived wherever the tokens stand
+-- what a symbol derives is derived wherever the tokens are
 pub moved : (n : Symbol) (v : Value n) (xs ys : List Token) → D n v xs ys → Moved n v xs ys
 moved = by_derivation Moved (λ n v xs ys here d us e. rolled {n = n} ((rules n).moved v xs ys d us e))
 
@@ -32,7 +32,7 @@ pub moved_list : (v : List ExpressionNode) (ts us : List Token)
     → (w : List ExpressionNode) × Derives checking written expressions w us
 moved_list v ts us d e = let found = moved expressions v ts [] d us e in (found.value, whole expressions v us found)
 
--- tokens of the kinds that derive a module derive the same module, spans aside
+-- tokens of the kinds that derive a module derive the same module, ignoring spans
 pub moved_unit : (u : TranslationUnit) (ts us : List Token) → Derives checking written unit u ts
     → map without_place us ≡ map without_place ts
     → (w : TranslationUnit) × Derives checking written unit w us × (bare_unit w ≡ bare_unit u)

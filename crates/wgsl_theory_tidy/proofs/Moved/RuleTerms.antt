@@ -1,4 +1,5 @@
--- What each rule derives is derived wherever the tokens stand; written by tools/tables/rule_terms.py.
+-- What each rule derives is derived wherever the tokens stand; written by
+-- tools/tables/rule_terms.py.
 use Rattle.wgsl_model.specs.Trees.Expressions as expression_trees
 use Rattle.wgsl_model.specs.Trees.Operators as operator_trees
 use Rattle.wgsl_model.specs.Trees.Statements as statement_trees
@@ -17,7 +18,7 @@ use Rattle.wgsl_theory_tidy.proofs.Moved.AttributeRules.{attribute_moves, attrib
 use Rattle.wgsl_theory_tidy.proofs.Moved.ExpressionRules.{arguments_move, binary_moves, component_moves, components_move, ident_moves, literal_moves, name_moves, node_moves, open_left_side_moves, operand_moves, operations_move, parenthesized_left_side_moves, template_moves, two_move, two_or_more_move, unary_moves}
 use Rattle.wgsl_theory_tidy.proofs.Moved.StatementRules.{assignment_operator_moves, attributed_moves, block_moves, break_if_moves, clause_moves, clauses_move, continuing_moves, else_ifs_move, else_moves, initializer_moves, left_side_moves, maybe_continuing_moves, part_moves, statements_move, underscore_moves, value_kind_moves, var_kind_moves, with_attributes_moves}
 use Rattle.wgsl_theory_tidy.proofs.Moved.UnitRules.{declaration_moves, diagnostic_directive_moves, directive_moves, function_declaration_moves, names_move}
-use Rattle.wgsl_theory_tidy.proofs.Moved.Ways.{MovesBy, before_moves, behind_moves, gives_moves, list_moves, list_or_none_moves, makes_moves, many_moves, means_moves, optional_moves, or_moves, sign_moves, symbol_moves, then_moves}
+use Rattle.wgsl_theory_tidy.proofs.Moved.Ways.{MovesBy, after_moves, before_moves, gives_moves, list_moves, list_or_none_moves, makes_moves, many_moves, means_moves, optional_moves, or_moves, sign_moves, symbol_moves, then_moves}
 
 type_specifier_moves : MovesBy (written type_specifier) (Alike type_specifier)
 type_specifier_moves =
@@ -27,7 +28,7 @@ type_specifier_moves =
 template_list_moves : MovesBy (written template_list) (Alike template_list)
 template_list_moves =
     before_moves TemplateArgsStart
-    (behind_moves TemplateArgsEnd
+    (after_moves TemplateArgsEnd
     (list_moves SymComma {bare = bare_expression_node} (symbol_moves expression)))
 
 expressions_moves : MovesBy (written expressions) (Alike expressions)
@@ -40,7 +41,7 @@ call_moves =
 
 arguments_moves : MovesBy (written arguments) (Alike arguments)
 arguments_moves =
-    before_moves SymParenLeft (behind_moves SymParenRight
+    before_moves SymParenLeft (after_moves SymParenRight
     (list_or_none_moves SymComma {bare = bare_expression_node} (symbol_moves expression)))
 
 primary_expression_moves : MovesBy (written primary_expression) (Alike primary_expression)
@@ -49,7 +50,7 @@ primary_expression_moves =
     (λ w v h. λ i. expression_trees.type_or_identifier (h i)))
     (or_moves (gives_moves (symbol_moves call) (λ w v h. λ i. expression_trees.function_call (h i)))
     (or_moves (gives_moves (symbol_moves literal) (λ w v h. λ i. expression_trees.literal (h i)))
-    (gives_moves (before_moves SymParenLeft (behind_moves SymParenRight (symbol_moves expression)))
+    (gives_moves (before_moves SymParenLeft (after_moves SymParenRight (symbol_moves expression)))
     (λ w v h. λ i. expression_trees.parenthesized (h i))))))
 
 singular_expression_moves : MovesBy (written singular_expression) (Alike singular_expression)
@@ -121,30 +122,30 @@ lhs_expression_moves = or_moves open_left_side_moves parenthesized_left_side_mov
 compound_statement_moves : MovesBy (written compound_statement) (Alike compound_statement)
 compound_statement_moves =
     gives_moves (then_moves attributes_move
-    (before_moves SymBraceLeft (behind_moves SymBraceRight statements_move)))
+    (before_moves SymBraceLeft (after_moves SymBraceRight statements_move)))
     (λ w v h. λ i. statement_trees.compound_statement (h.0 i) (h.1 i))
 
 statement_moves : MovesBy (written statement) (Alike statement)
 statement_moves =
     makes_moves {like = λ w v. bare_statement w ≡ bare_statement v}
     (or_moves (means_moves SymSemicolon refl)
-    (or_moves (behind_moves SymSemicolon (symbol_moves return_statement))
+    (or_moves (after_moves SymSemicolon (symbol_moves return_statement))
     (or_moves (symbol_moves if_statement)
     (or_moves (symbol_moves switch_statement)
     (or_moves (symbol_moves loop_statement)
     (or_moves (symbol_moves for_statement)
     (or_moves (symbol_moves while_statement)
-    (or_moves (behind_moves SymSemicolon (symbol_moves call_statement))
-    (or_moves (behind_moves SymSemicolon (symbol_moves var_statement))
-    (or_moves (behind_moves SymSemicolon (symbol_moves value_statement))
-    (or_moves (behind_moves SymSemicolon (symbol_moves break_statement))
-    (or_moves (behind_moves SymSemicolon (symbol_moves continue_statement))
-    (or_moves (behind_moves SymSemicolon (symbol_moves discard_statement))
-    (or_moves (behind_moves SymSemicolon (symbol_moves assignment))
-    (or_moves (behind_moves SymSemicolon (symbol_moves phony_assignment))
-    (or_moves (behind_moves SymSemicolon (symbol_moves increment))
-    (or_moves (behind_moves SymSemicolon (symbol_moves decrement))
-    (or_moves block_moves (gives_moves (behind_moves SymSemicolon (symbol_moves const_assert))
+    (or_moves (after_moves SymSemicolon (symbol_moves call_statement))
+    (or_moves (after_moves SymSemicolon (symbol_moves var_statement))
+    (or_moves (after_moves SymSemicolon (symbol_moves value_statement))
+    (or_moves (after_moves SymSemicolon (symbol_moves break_statement))
+    (or_moves (after_moves SymSemicolon (symbol_moves continue_statement))
+    (or_moves (after_moves SymSemicolon (symbol_moves discard_statement))
+    (or_moves (after_moves SymSemicolon (symbol_moves assignment))
+    (or_moves (after_moves SymSemicolon (symbol_moves phony_assignment))
+    (or_moves (after_moves SymSemicolon (symbol_moves increment))
+    (or_moves (after_moves SymSemicolon (symbol_moves decrement))
+    (or_moves block_moves (gives_moves (after_moves SymSemicolon (symbol_moves const_assert))
     (λ w v h. λ i. statement_trees.as_statement statement_trees.const_assert
     (h i))))))))))))))))))))) (λ w v s r h. λ i. statement_trees.statement_node (h i) no_span)
 
@@ -168,7 +169,7 @@ switch_statement_moves =
     attributed_moves (gives_moves (before_moves KwSwitch
     (then_moves (symbol_moves expression)
     (then_moves attributes_move
-    (before_moves SymBraceLeft (behind_moves SymBraceRight clauses_move)))))
+    (before_moves SymBraceLeft (after_moves SymBraceRight clauses_move)))))
     (λ w v h. λ i. statement_trees.switch_statement
     (statement_trees.switch (h.0 i) (h.1.0 i) (h.1.1 i))))
 
@@ -176,7 +177,7 @@ loop_statement_moves : MovesBy (written loop_statement) (Alike loop_statement)
 loop_statement_moves =
     attributed_moves (gives_moves (before_moves KwLoop
     (then_moves attributes_move (before_moves SymBraceLeft
-    (behind_moves SymBraceRight (then_moves statements_move maybe_continuing_moves)))))
+    (after_moves SymBraceRight (then_moves statements_move maybe_continuing_moves)))))
     (λ w v h. λ i. statement_trees.loop_statement
     (statement_trees.repeat (statement_trees.compound_statement (h.0 i) (h.1.0 i)) (h.1.1 i))))
 
@@ -184,10 +185,10 @@ for_statement_moves : MovesBy (written for_statement) (Alike for_statement)
 for_statement_moves =
     attributed_moves (gives_moves (before_moves KwFor
     (before_moves SymParenLeft (then_moves
-    (behind_moves SymSemicolon (part_moves (symbol_moves for_init)))
-    (then_moves (behind_moves SymSemicolon
+    (after_moves SymSemicolon (part_moves (symbol_moves for_init)))
+    (then_moves (after_moves SymSemicolon
     (optional_moves {bare = bare_expression_node} (symbol_moves expression)))
-    (then_moves (behind_moves SymParenRight (part_moves (symbol_moves for_update)))
+    (then_moves (after_moves SymParenRight (part_moves (symbol_moves for_update)))
     (symbol_moves compound_statement))))))
     (λ w v h. λ i. statement_trees.for_statement
     (statement_trees.repeat_for (h.0 i) (h.1.0 i) (h.1.1.0 i) (h.1.1.1 i))))
@@ -242,13 +243,13 @@ phony_assignment_moves =
 
 increment_moves : MovesBy (written increment) (Alike increment)
 increment_moves =
-    gives_moves (behind_moves SymPlusPlus left_side_moves)
+    gives_moves (after_moves SymPlusPlus left_side_moves)
     (λ w v h. λ i. statement_trees.statement (h.0 i)
     (statement_trees.increment (record { expression = h.1 i })))
 
 decrement_moves : MovesBy (written decrement) (Alike decrement)
 decrement_moves =
-    gives_moves (behind_moves SymMinusMinus left_side_moves)
+    gives_moves (after_moves SymMinusMinus left_side_moves)
     (λ w v h. λ i. statement_trees.statement (h.0 i)
     (statement_trees.decrement (record { expression = h.1 i })))
 
@@ -279,7 +280,7 @@ continuing_statement_moves : MovesBy (written continuing_statement) (Alike conti
 continuing_statement_moves =
     continuing_moves (gives_moves (before_moves KwContinuing
     (then_moves attributes_move (before_moves SymBraceLeft
-    (behind_moves SymBraceRight (then_moves statements_move
+    (after_moves SymBraceRight (then_moves statements_move
     (optional_moves {bare = bare_attributed bare_break_if} break_if_moves))))))
     (λ w v h. ((λ i. statement_trees.compound_statement (h.0 i) (h.1.0 i)), h.1.1)))
 
@@ -312,7 +313,7 @@ typed_ident_moves =
 struct_member_moves : MovesBy (written struct_member) (Alike struct_member)
 struct_member_moves =
     makes_moves (then_moves attributes_move
-    (then_moves (behind_moves SymColon name_moves) (symbol_moves type_specifier)))
+    (then_moves (after_moves SymColon name_moves) (symbol_moves type_specifier)))
     (λ w v s r h. λ i. record {
       node = record { attributes = h.0 i; ident = h.1.0 i; ty = h.1.1 i };
       span = no_span;
@@ -321,7 +322,7 @@ struct_member_moves =
 formal_parameter_moves : MovesBy (written formal_parameter) (Alike formal_parameter)
 formal_parameter_moves =
     gives_moves (then_moves attributes_move
-    (then_moves (behind_moves SymColon name_moves) (symbol_moves type_specifier)))
+    (then_moves (after_moves SymColon name_moves) (symbol_moves type_specifier)))
     (λ w v h. λ i. record { attributes = h.0 i; ident = h.1.0 i; ty = h.1.1 i })
 
 global_declaration_moves : MovesBy (written global_declaration) (Alike global_declaration)
@@ -334,7 +335,7 @@ global_declaration_moves =
     (or_moves (symbol_moves alias_declaration)
     (or_moves (symbol_moves struct_declaration)
     (or_moves (symbol_moves function_declaration)
-    (gives_moves (behind_moves SymSemicolon (symbol_moves const_assert))
+    (gives_moves (after_moves SymSemicolon (symbol_moves const_assert))
     (λ w v h. λ i. unit_trees.as_declaration unit_trees.const_assert (h i))))))))))
     (λ w v s r h. λ i. record { node = h i; span = no_span })
 
@@ -342,7 +343,7 @@ var_declaration_moves : MovesBy (written var_declaration) (Alike var_declaration
 var_declaration_moves =
     declaration_moves (gives_moves
     (then_moves var_kind_moves (then_moves (symbol_moves typed_ident)
-    (behind_moves SymSemicolon (optional_moves {bare = bare_expression_node} initializer_moves))))
+    (after_moves SymSemicolon (optional_moves {bare = bare_expression_node} initializer_moves))))
     (λ w v h. λ i. unit_trees.declaration
     (record { kind = h.0 i; ident = h.1.0.0 i; ty = h.1.0.1 i; initializer = h.1.1 i })))
 
@@ -350,7 +351,7 @@ const_declaration_moves : MovesBy (written const_declaration) (Alike const_decla
 const_declaration_moves =
     declaration_moves (gives_moves
     (before_moves KwConst
-    (then_moves (symbol_moves typed_ident) (behind_moves SymSemicolon initializer_moves)))
+    (then_moves (symbol_moves typed_ident) (after_moves SymSemicolon initializer_moves)))
     (λ w v h. λ i. unit_trees.declaration
     (record {
       kind = statement_trees.const_kind;
@@ -363,7 +364,7 @@ override_declaration_moves : MovesBy (written override_declaration) (Alike overr
 override_declaration_moves =
     declaration_moves (gives_moves
     (before_moves KwOverride (then_moves (symbol_moves typed_ident)
-    (behind_moves SymSemicolon (optional_moves {bare = bare_expression_node} initializer_moves))))
+    (after_moves SymSemicolon (optional_moves {bare = bare_expression_node} initializer_moves))))
     (λ w v h. λ i. unit_trees.declaration
     (record
     { kind = statement_trees.override_kind; ident = h.0.0 i; ty = h.0.1 i; initializer = h.1 i })))
@@ -372,14 +373,14 @@ alias_declaration_moves : MovesBy (written alias_declaration) (Alike alias_decla
 alias_declaration_moves =
     declaration_moves (gives_moves
     (before_moves KwAlias (then_moves name_moves
-    (before_moves SymEqual (behind_moves SymSemicolon (symbol_moves type_specifier)))))
+    (before_moves SymEqual (after_moves SymSemicolon (symbol_moves type_specifier)))))
     (λ w v h. λ i. unit_trees.type_alias (record { ident = h.0 i; ty = h.1 i })))
 
 struct_declaration_moves : MovesBy (written struct_declaration) (Alike struct_declaration)
 struct_declaration_moves =
     declaration_moves (gives_moves
     (before_moves KwStruct (then_moves name_moves
-    (before_moves SymBraceLeft (behind_moves SymBraceRight
+    (before_moves SymBraceLeft (after_moves SymBraceRight
     (list_moves SymComma {bare = bare_spanned bare_member} (symbol_moves struct_member))))))
     (λ w v h. λ i. unit_trees.structure (record { ident = h.0 i; members = h.1 i })))
 
@@ -390,12 +391,12 @@ global_directive_moves =
 
 enable_directive_moves : MovesBy (written enable_directive) (Alike enable_directive)
 enable_directive_moves =
-    directive_moves (gives_moves (before_moves KwEnable (behind_moves SymSemicolon names_move))
+    directive_moves (gives_moves (before_moves KwEnable (after_moves SymSemicolon names_move))
     (λ w v h. λ i. unit_trees.enable (record { extensions = h i })))
 
 requires_directive_moves : MovesBy (written requires_directive) (Alike requires_directive)
 requires_directive_moves =
-    directive_moves (gives_moves (before_moves KwRequires (behind_moves SymSemicolon names_move))
+    directive_moves (gives_moves (before_moves KwRequires (after_moves SymSemicolon names_move))
     (λ w v h. λ i. unit_trees.requires (record { extensions = h i })))
 
 unit_moves : MovesBy (written unit) (Alike unit)

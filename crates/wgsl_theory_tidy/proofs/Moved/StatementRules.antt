@@ -1,4 +1,4 @@
--- Parts of statements derive the same wherever the tokens stand.
+-- Parts of statements derive the same wherever the tokens are.
 use Rattle.std.proofs.Common.{◌≡◌, List, [], ◌∷◌, map, Option, refl, sym, ap, ◌∙◌}
 use Rattle.std.specs.Option.{option_map}
 use Rattle.grammar.specs.Grammar.{Grammar.symbol}
@@ -13,11 +13,11 @@ use Rattle.wgsl_model.specs.Grammar.StatementParts.{attributed, statements, init
 use Rattle.wgsl_model.specs.Grammar.Symbols.{Dialect.parsed, expression, compound_statement, statement, switch_clause, continuing_statement, var_template, Rule}
 use Rattle.wgsl_theory_reread.proofs.EachRule.StatementRules.{block_bare}
 use Rattle.wgsl_theory_reread.proofs.EachRule.StatementParts.{else_ifs_bare, clauses_bare}
-use Rattle.wgsl_theory_tidy.proofs.Moved.Ways.{MovesBy, sign_moves, symbol_moves, none_moves, then_moves, or_moves, gives_moves, makes_moves, alike_moves, before_moves, behind_moves, means_moves, many_moves, several_moves}
+use Rattle.wgsl_theory_tidy.proofs.Moved.Ways.{MovesBy, sign_moves, symbol_moves, none_moves, then_moves, or_moves, gives_moves, makes_moves, alike_moves, before_moves, after_moves, means_moves, many_moves, several_moves}
 use Rattle.wgsl_theory_tidy.proofs.Moved.ExpressionRules.{open_left_side_moves, parenthesized_left_side_moves}
 use Rattle.wgsl_theory_tidy.proofs.Moved.AttributeRules.{attributes_move}
 
--- ---- lists, as they stand in a tree
+-- ---- lists, as they are in a tree
 statements_bare : (ss : List StatementNode)
     → bare_statements (statements_of ss) ≡ statements_of (map bare_statement_node ss)
 statements_bare [] = refl
@@ -34,13 +34,13 @@ initializer_moves = before_moves SymEqual (symbol_moves expression)
 pub var_kind_moves : MovesBy var_kind (λ w v. w ≡ v)
 var_kind_moves = gives_moves (symbol_moves var_template) (λ w v h. h)
 
--- a statement behind attributes
+-- a statement after attributes
 pub attributed_moves : {g : Rule UnattributedStatement}
     → MovesBy g (λ w v. bare_unattributed w ≡ bare_unattributed v)
     → MovesBy (attributed tree.statement g) (λ w v. bare_statement w ≡ bare_statement v)
 attributed_moves G = gives_moves (then_moves attributes_move G) (λ w v h. λ i. tree.statement (h.0 i) (h.1 i))
 
--- another node behind attributes
+-- another node after attributes
 pub with_attributes_moves : {A : Type 0} {g : Rule A} {bare : A → A} → MovesBy g (λ w v. bare w ≡ bare v)
     → MovesBy (attributed with_attributes g) (λ w v. bare_attributed bare w ≡ bare_attributed bare v)
 with_attributes_moves G = gives_moves (then_moves attributes_move G) (λ w v h. λ i. with_attributes (h.0 i) (h.1 i))
@@ -92,7 +92,7 @@ pub underscore_moves : MovesBy (one_token SymUnderscore makes underscore_at)
     (λ w v. bare_expression_node w ≡ bare_expression_node v)
 underscore_moves = makes_moves (sign_moves SymUnderscore) (λ w v s r h. refl)
 
--- a left side behind attributes
+-- a left side after attributes
 pub left_side_moves : MovesBy (left_side parsed)
     (λ w v. (bare_attributes w.0 ≡ bare_attributes v.0) × (bare_expression_node w.1 ≡ bare_expression_node v.1))
 left_side_moves = or_moves (then_moves attributes_move open_left_side_moves)
@@ -119,7 +119,7 @@ clause_moves G = gives_moves (then_moves attributes_move G)
 pub break_if_moves : MovesBy (break_if parsed)
     (λ w v. bare_attributed bare_break_if w ≡ bare_attributed bare_break_if v)
 break_if_moves = with_attributes_moves {bare = bare_break_if}
-    (gives_moves (before_moves KwBreak (before_moves KwIf (behind_moves SymSemicolon
+    (gives_moves (before_moves KwBreak (before_moves KwIf (after_moves SymSemicolon
     (symbol_moves expression)))) (λ w v h. λ i. record { expression = h i }))
 
 -- a block, and its `break if`

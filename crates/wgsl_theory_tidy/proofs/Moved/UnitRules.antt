@@ -1,4 +1,4 @@
--- Parts of modules, and rules that RuleTerms leaves out, derive the same wherever the tokens stand.
+-- Parts of modules, and rules that RuleTerms leaves out, derive the same wherever the tokens are.
 use Rattle.std.proofs.Common.{◌≡◌, List, map, Option, Some, None, refl, sym, ap, ◌∙◌}
 use Rattle.std.specs.Option.{option_map}
 use Rattle.grammar.specs.Tokens.{Token}
@@ -21,7 +21,7 @@ use Rattle.wgsl_model.specs.Grammar.Written.{written}
 use Rattle.wgsl_theory_reread.specs.CanonicalUnits.{without_place}
 use Rattle.wgsl_theory_reread.proofs.EachRule.UnitParts.{FunctionParts, function_in, same_rule, bare_returned, texts_mapped}
 use Rattle.wgsl_theory_tidy.proofs.Moved.Alike.{Alike}
-use Rattle.wgsl_theory_tidy.proofs.Moved.Ways.{MovesBy, token_moves, symbol_moves, then_moves, gives_moves, alike_moves, before_moves, behind_moves, optional_moves, list_moves, list_or_none_moves}
+use Rattle.wgsl_theory_tidy.proofs.Moved.Ways.{MovesBy, token_moves, symbol_moves, then_moves, gives_moves, alike_moves, before_moves, after_moves, optional_moves, list_moves, list_or_none_moves}
 use Rattle.wgsl_theory_tidy.proofs.Moved.ExpressionRules.{name_moves}
 use Rattle.wgsl_theory_tidy.proofs.Moved.AttributeRules.{attributes_move}
 use Rattle.wgsl_theory_tidy.proofs.Moved.StatementRules.{with_attributes_moves}
@@ -30,7 +30,7 @@ use Rattle.wgsl_theory_tidy.proofs.Moved.StatementRules.{with_attributes_moves}
 abbrev SameDeclaration : UnattributedDeclaration → UnattributedDeclaration → Type 0
 SameDeclaration w v = bare_unattributed_declaration w ≡ bare_unattributed_declaration v
 
--- a declaration behind its attributes
+-- a declaration after its attributes
 pub declaration_moves : {g : Rule UnattributedDeclaration} → MovesBy g SameDeclaration
     → MovesBy (attributed with_attributes g) (λ w v. bare_global_declaration w ≡ bare_global_declaration v)
 declaration_moves G = with_attributes_moves {bare = bare_unattributed_declaration} G
@@ -62,7 +62,7 @@ same_function w v name parameters returned block =
 pub function_declaration_moves : MovesBy (written function_declaration) (Alike function_declaration)
 function_declaration_moves = with_attributes_moves {bare = bare_unattributed_declaration}
     (gives_moves {same = SameDeclaration}
-    (before_moves KwFn (then_moves (symbol_moves ident) (before_moves SymParenLeft (then_moves (behind_moves
+    (before_moves KwFn (then_moves (symbol_moves ident) (before_moves SymParenLeft (then_moves (after_moves
     SymParenRight (list_or_none_moves SymComma {bare = bare_parameter} (symbol_moves formal_parameter)))
     (then_moves (optional_moves {bare = bare_returned} returned_moves) (symbol_moves compound_statement))))))
     (λ w v h. ap tree.function (same_function w v h.0 h.1.0 h.1.1.0 h.1.1.1)))
@@ -76,17 +76,17 @@ names_move = alike_moves (list_moves SymComma name_moves) (λ w v h. texts_mappe
 abbrev SameDirective : UnattributedDirective → UnattributedDirective → Type 0
 SameDirective w v = w ≡ v
 
--- a directive behind its attributes
+-- a directive after its attributes
 pub directive_moves : {g : Rule UnattributedDirective} → MovesBy g SameDirective
     → MovesBy (attributed with_attributes g) (λ w v. bare_directive w ≡ bare_directive v)
 directive_moves G = with_attributes_moves {bare = λ d. d} G
 
--- a name and a further one behind `.`, with a comma behind them or none
+-- a name and a further one after `.`, with a comma after them or none
 pub diagnostic_directive_moves : MovesBy (written diagnostic_directive) (Alike diagnostic_directive)
 diagnostic_directive_moves = with_attributes_moves {bare = λ d. d} (gives_moves {same = SameDirective}
-    (then_moves (behind_moves SymComma (symbol_moves diagnostic_severity))
+    (then_moves (after_moves SymComma (symbol_moves diagnostic_severity))
     (then_moves name_moves (then_moves (optional_moves (before_moves SymPeriod name_moves))
-    (behind_moves SymSemicolon (behind_moves SymParenRight (optional_moves {bare = without_place} (token_moves _)))))))
+    (after_moves SymSemicolon (after_moves SymParenRight (optional_moves {bare = without_place} (token_moves _)))))))
     (λ w v h. let severity = ap (λ (k : Kind). severity_of (placed k 0 0)) h.0 in
     let rule = same_rule w.1.0 v.1.0 w.1.1.0 v.1.1.0 h.1.0 h.1.1.0 in
     λ i. tree.diagnostic (record { severity = severity i; rule_name = rule i })))

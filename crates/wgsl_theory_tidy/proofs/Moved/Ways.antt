@@ -1,4 +1,4 @@
--- What a right side derives is derived wherever the tokens stand, by the ways to write it.
+-- What a right side derives is derived wherever the tokens are, by the ways to write it.
 use Rattle.std.proofs.Common.{◌≡◌, ℕ, List, [], ◌∷◌, ◌++◌, map, Option, Some, None, refl, sym, ap, ap₂, subst, ◌∙◌, inl, inr}
 use Rattle.std.specs.Option.{option_map}
 use Rattle.grammar.specs.Tokens.{Token, Span, Fault, span_between}
@@ -7,10 +7,10 @@ use Rattle.grammar.specs.Notation.{one_token, ◌then◌, ◌or◌, ◌gives◌,
 use Rattle.wgsl_model.specs.Grammar.Symbols.{Symbol, Rule}
 use Rattle.wgsl_theory_reread.specs.CanonicalUnits.{without_place}
 use Rattle.wgsl_theory_reread.proofs.Again.{D}
-use Rattle.wgsl_theory_reread.proofs.Ways.{found_as, found_in, first_of, class_of, map_behind}
+use Rattle.wgsl_theory_reread.proofs.Ways.{found_as, found_in, first_of, class_of, map_after}
 use Rattle.wgsl_theory_tidy.proofs.Moved.Alike.{Alike, Moves, Moved}
 
--- what a right side derives is derived wherever the tokens stand
+-- what a right side derives is derived wherever the tokens are
 pub record MovesBy {A : Type 0} (g : Rule A) (like : A → A → Type 0) : Type 0 where
   pub moved : (v : A) (xs ys : List Token) → Means checking Moved g v xs ys → Moves (Means checking D g) like v xs ys
 
@@ -85,7 +85,7 @@ makes_moves {A} {B} {g} {f} {like} {same} G t = record {
       (λ a rest h. t a d.0 (span_between us rest) (span_between xs ys) h) (G.moved d.0 xs ys d.2 us e));
 }
 
--- what passes a check, and another likeness of it: whether a value passes does not hang on its
+-- what passes a check, and another likeness of it: whether a value passes does not depend on its
 -- spans
 pub check_moves : {A : Type 0} {g : Rule A} {f : A → Span → Option Fault} {like same : A → A → Type 0}
     → MovesBy g like → ((w v : A) (s r : Span) → like w v → f v r ≡ None → (f w s ≡ None) × same w v)
@@ -104,12 +104,12 @@ alike_moves G t = record {
   moved = λ v xs ys d us e. found_as (λ a rest. a) (λ a rest i. i) (λ a rest h. t a v h) (G.moved v xs ys d us e);
 }
 
--- ---- a sign or a keyword, before a part, behind it, or for a value
+-- ---- a sign or a keyword, before a part, after it, or for a value
 pub before_moves : {A : Type 0} (c : ℕ) {g : Rule A} {like : A → A → Type 0} → MovesBy g like → MovesBy (c ▹ g) like
 before_moves c G = gives_moves (then_moves (token_moves (c ∷ [])) G) (λ w v h. h.1)
 
-pub behind_moves : {A : Type 0} (c : ℕ) {g : Rule A} {like : A → A → Type 0} → MovesBy g like → MovesBy (g ◃ c) like
-behind_moves c G = gives_moves (then_moves G (token_moves (c ∷ []))) (λ w v h. h.0)
+pub after_moves : {A : Type 0} (c : ℕ) {g : Rule A} {like : A → A → Type 0} → MovesBy g like → MovesBy (g ◃ c) like
+after_moves c G = gives_moves (then_moves G (token_moves (c ∷ []))) (λ w v h. h.0)
 
 pub means_moves : {A : Type 0} (c : ℕ) {a : A} {like : A → A → Type 0} → like a a → MovesBy (c means a) like
 means_moves c t = gives_moves (token_moves (c ∷ [])) (λ w v h. t)
@@ -142,10 +142,10 @@ chain_moves {A} {B} {f} {g} {h} {like} {like_item} G H t = record { moved = λ v
       }
 
 -- one more item
-items_behind : {A B : Type 0} (bare : A → B) (w v : List A) (x y : A) → map bare w ≡ map bare v
+items_after : {A B : Type 0} (bare : A → B) (w v : List A) (x y : A) → map bare w ≡ map bare v
     → bare x ≡ bare y → map bare (w ++ (x ∷ [])) ≡ map bare (v ++ (y ∷ []))
-items_behind {A} {B} bare w v x y h k = map_behind bare w x
-    ∙ ap₂ (λ (z : List B) (u : B). z ++ (u ∷ [])) h k ∙ sym (map_behind bare v y)
+items_after {A} {B} bare w v x y h k = map_after bare w x
+    ∙ ap₂ (λ (z : List B) (u : B). z ++ (u ∷ [])) h k ∙ sym (map_after bare v y)
 
 -- a first item
 one_moves : {A B : Type 0} {g : Rule A} {bare : A → B} → MovesBy g (λ w v. bare w ≡ bare v)
@@ -154,20 +154,20 @@ one_moves {A} {B} G = gives_moves G (λ w v h. ap (λ (z : B). z ∷ []) h)
 
 pub many_moves : {A B : Type 0} {g : Rule A} {bare : A → B} → MovesBy g (λ w v. bare w ≡ bare v)
     → MovesBy (many g) (λ w v. map bare w ≡ map bare v)
-many_moves {bare = bare} G = chain_moves (none_moves [] refl) G (λ w v x y s r h k. items_behind bare w v x y h k)
+many_moves {bare = bare} G = chain_moves (none_moves [] refl) G (λ w v x y s r h k. items_after bare w v x y h k)
 
 pub several_moves : {A B : Type 0} {g : Rule A} {bare : A → B} → MovesBy g (λ w v. bare w ≡ bare v)
     → MovesBy (several g) (λ w v. map bare w ≡ map bare v)
-several_moves {bare = bare} G = chain_moves (one_moves G) G (λ w v x y s r h k. items_behind bare w v x y h k)
+several_moves {bare = bare} G = chain_moves (one_moves G) G (λ w v x y s r h k. items_after bare w v x y h k)
 
 separated_moves : {A B : Type 0} (c : ℕ) {g : Rule A} {bare : A → B}
     → MovesBy g (λ w v. bare w ≡ bare v) → MovesBy (separated c g) (λ w v. map bare w ≡ map bare v)
 separated_moves c {bare = bare} G = chain_moves (one_moves G) (before_moves c G)
-    (λ w v x y s r h k. items_behind bare w v x y h k)
+    (λ w v x y s r h k. items_after bare w v x y h k)
 
 pub list_moves : {A B : Type 0} (c : ℕ) {g : Rule A} {bare : A → B}
     → MovesBy g (λ w v. bare w ≡ bare v) → MovesBy (list c g) (λ w v. map bare w ≡ map bare v)
-list_moves c G = or_moves (separated_moves c G) (behind_moves c (separated_moves c G))
+list_moves c G = or_moves (separated_moves c G) (after_moves c (separated_moves c G))
 
 pub list_or_none_moves : {A B : Type 0} (c : ℕ) {g : Rule A} {bare : A → B}
     → MovesBy g (λ w v. bare w ≡ bare v) → MovesBy (list_or_none c g) (λ w v. map bare w ≡ map bare v)

@@ -51,8 +51,8 @@ decreases-type_expression::TypeExpressionPartialEq::eq l = 2 * size-TypeExpressi
 abbrev pub decreases-unary::UnaryExpressionPartialEq::eq : goal.decreases-unary::UnaryExpressionPartialEq::eq
 decreases-unary::UnaryExpressionPartialEq::eq l = 2 * size-UnaryExpression l.self.now
 
-abbrev pub decreases-binary::equal_behind : goal.decreases-binary::equal_behind
-decreases-binary::equal_behind l = 2 * size-BinaryExpression l.x.now
+abbrev pub decreases-binary::equal_after : goal.decreases-binary::equal_after
+decreases-binary::equal_after l = 2 * size-BinaryExpression l.x.now
 
 abbrev pub decreases-chain::equal_chains : goal.decreases-chain::equal_chains
 decreases-chain::equal_chains l = 2 * size-Expression l.a.now.node.value + 1

@@ -106,7 +106,7 @@ for_statement::write_for-returns g t c = λ ok.
     ▸ c.in_ok-write_piece.ensures refl
     ▸ c.write_compound.ensures ok)
 
--- an expression and a block behind a word
+-- an expression and a block after a word
 headed_is : (line word e block : List ℕ)
     → line ++ (word ++ e ++ codes " ") ++ block ≡ line ++ (word ++ e ++ codes " " ++ block)
 headed_is line word e block = simp append_assoc

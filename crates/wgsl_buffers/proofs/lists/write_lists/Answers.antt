@@ -6,8 +6,8 @@ use Rattle.wgsl_buffers.specs.Items.{lists_before, ArePlaces}
 use Rattle.wgsl_buffers.proofs.Written.{all_places}
 use Rattle.wgsl_buffers.proofs.lists.write_lists.Goals as goal
 
-pub returns-then-room-count : goal.returns-then-room-count
-returns-then-room-count c =
+pub returns-then-buffer-count : goal.returns-then-buffer-count
+returns-then-buffer-count c =
     let text = c.args.text.now in
     let spans = c.in-Ok.templates.lists.spans.items in
     let are : ArePlaces (chars text) (lists_before spans (length text)) =
@@ -18,7 +18,7 @@ returns-then-room-count c =
         lists_before spans (length text),
         are,
         c.fill-count.ensures.held,
-        omega (arith, c.fill-count.ensures.count, c.if-room-count.true),
+        omega (arith, c.fill-count.ensures.count, c.if-buffer-count.true),
         c.of_size.ensures ∙ ap counted c.fill-count.ensures.count,
       );
       all = search rules;
@@ -34,13 +34,13 @@ returns c =
     all_places text spans c.in-Some.ensures.1
     (subst (λ s. AreLists (width (chars s)) spans (chars s)) c.in-Some.ensures.0 c.in-Ok.ensures.lists) in
     let count : c.fill-count.result ≡ length (lists_before spans (length text)) =
-    omega (arith, c.fill-count.ensures.count, c.if-room-count.false) in
+    omega (arith, c.fill-count.ensures.count, c.if-buffer-count.false) in
     record {
       all = λ _. (
         lists_before spans (length text),
         are,
         c.fill-count.ensures.held,
-        omega (arith, count, c.if-room-count.false),
+        omega (arith, count, c.if-buffer-count.false),
         c.of_size.ensures ∙ ap counted count,
       );
       small = search rules;

@@ -5,8 +5,8 @@ use Rattle.wgsl_buffers.proofs.tidied.tidy.Goals as goal
 
 pub returns-in-Err : goal.returns-in-Err
 returns-in-Err c = record {
-  refused = λ one. refused_by IsFaultAfterMark c.in-Some.source.now c.args.text.now c.args.room.now
-      c.tell_error.new.room c.tell_error.new.answer c.in-Err.error c.in-Some.ensures.0 c.in-Err.ensures.refused
+  refused = λ one. refused_by IsFaultAfterMark c.in-Some.source.now c.args.text.now c.args.buffer.now
+      c.tell_error.new.buffer c.tell_error.new.answer c.in-Err.error c.in-Some.ensures.0 c.in-Err.ensures.refused
       c.in-Err.ensures.placed (c.tell_error.ensures.named one) (c.tell_error.ensures.refused one);
   formatted = search rules;
   small = search rules;

@@ -6,7 +6,7 @@ use Rattle.wgsl_buffers.proofs.tokens.fill.Given as goal
 abbrev pub invariant-tokens : goal.invariant-tokens
 invariant-tokens l = record {
   ending : ending_left l.left ≡ ending_left l.fn.left;
-  written : Written (tokens_left l.fn.left) (tokens_left l.left) l.room l.count;
+  written : Written (tokens_left l.fn.left) (tokens_left l.left) l.buffer l.count;
 }
 
 abbrev pub decreases-tokens : goal.decreases-tokens

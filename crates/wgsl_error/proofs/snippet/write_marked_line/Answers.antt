@@ -9,7 +9,7 @@ use Rattle.wgsl_span.specs.View.{span_view}
 use Rattle.wgsl_error.specs.Places.{marked_line}
 use Rattle.wgsl_error.proofs.snippet.write_marked_line.Goals as goal
 
--- a byte so many times
+-- a byte a number of times
 repeated : (n b : ℕ) → concat (replicate n (b ∷ [])) ≡ replicate n b
 repeated zero b = refl
 repeated (suc n) b = ap (λ bs. b ∷ bs) (repeated n b)

@@ -10,8 +10,8 @@ use Rattle.wgsl_format_layout.proofs.comment.is_followed.Given as goal
 abbrev pub invariant-pieces : goal.invariant-pieces
 invariant-pieces l = record {
   text : shadow (Utf8 l.rest);
-  follows : (behind : ℕ → List Piece) → MayFollow behind l.has_next
-      → is_followed (comments behind outside 0 (chars l.text)) ≡ is_followed (comments behind outside 0 (chars l.rest));
+  follows : (following : ℕ → List Piece) → MayFollow following l.has_next
+      → is_followed (comments following outside 0 (chars l.text)) ≡ is_followed (comments following outside 0 (chars l.rest));
 }
 
 abbrev pub decreases-pieces : goal.decreases-pieces

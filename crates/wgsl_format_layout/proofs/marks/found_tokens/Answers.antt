@@ -25,7 +25,7 @@ tokens-init c =
     }
 
 pub range-requires-clause-start_le_end : goal.range-requires-clause-start_le_end
-range-requires-clause-start_le_end c = (next (goal.at.range-requires-clause-start_le_end c).In-Some-Some).behind
+range-requires-clause-start_le_end c = (next (goal.at.range-requires-clause-start_le_end c).In-Some-Some).following
 
 pub range-requires-clause-start_boundary : goal.range-requires-clause-start_boundary
 range-requires-clause-start_boundary c = λ _. left_boundary c.args.source.now c.tokens.place

@@ -1,7 +1,7 @@
 -- The law is proved in the theory.
 use Rattle.grammar.specs.Endings.{Ending.finished}
 use Rattle.wgsl_model.specs.Grammar.Symbols.{Symbol.expression, Symbol.literal, Symbol.template_list}
-use Rattle.wgsl_laws.specs.ExpressionsRows.{sum_to_the_left_tokens, product_of_a_negation_tokens, two_negations_tokens, base_before_its_component_tokens, chain_of_comparisons_tokens, template_and_call_tokens, last_comma_of_arguments_tokens, comparison_of_a_shift_tokens, shift_of_a_sum_tokens, and_beside_or_tokens, doubled_comma_tokens, fault_behind_an_unexpected_token_tokens, fault_at_an_unexpected_token_tokens, no_expression_tokens, boolean_literal_tokens, no_literal_tokens, template_of_one_tokens}
+use Rattle.wgsl_laws.specs.ExpressionsRows.{sum_to_the_left_tokens, product_of_a_negation_tokens, two_negations_tokens, base_before_its_component_tokens, chain_of_comparisons_tokens, template_and_call_tokens, last_comma_of_arguments_tokens, comparison_of_a_shift_tokens, shift_of_a_sum_tokens, and_beside_or_tokens, doubled_comma_tokens, fault_after_an_unexpected_token_tokens, fault_at_an_unexpected_token_tokens, no_expression_tokens, boolean_literal_tokens, no_literal_tokens, template_of_one_tokens}
 use Rattle.wgsl_theory_grammar.proofs.Faults.Answers.{answers_are_true}
 use Rattle.wgsl_laws.proofs.derived_rows.expressions.Goals as goal
 
@@ -38,9 +38,9 @@ returns-clause-and_beside_or c = answers_are_true expression and_beside_or_token
 pub returns-clause-doubled_comma : goal.returns-clause-doubled_comma
 returns-clause-doubled_comma c = answers_are_true expression doubled_comma_tokens finished
 
-pub returns-clause-fault_behind_an_unexpected_token : goal.returns-clause-fault_behind_an_unexpected_token
-returns-clause-fault_behind_an_unexpected_token c =
-    answers_are_true expression fault_behind_an_unexpected_token_tokens finished
+pub returns-clause-fault_after_an_unexpected_token : goal.returns-clause-fault_after_an_unexpected_token
+returns-clause-fault_after_an_unexpected_token c =
+    answers_are_true expression fault_after_an_unexpected_token_tokens finished
 
 pub returns-clause-fault_at_an_unexpected_token : goal.returns-clause-fault_at_an_unexpected_token
 returns-clause-fault_at_an_unexpected_token c = answers_are_true expression fault_at_an_unexpected_token_tokens finished

@@ -24,8 +24,8 @@ pieces-preserved-in-Blank c =
       run = c.pieces.invariant.run;
     }
 
-pub returns-clause-behind : goal.returns-clause-behind
-returns-clause-behind c =
+pub returns-clause-following : goal.returns-clause-following
+returns-clause-following c =
     subst (BeginsAt (chars c.args.source.now) c.place.result)
     (sym (over_none (chars c.pieces.rest.now) c.in_default.ensures.value) ∙ c.pieces.invariant.rest)
     c.place.ensures

@@ -12,7 +12,7 @@ use Rattle.wgsl_lex_templates.specs.Reached.{GoesOn}
 use Rattle.wgsl_lex_templates.specs.Readings.{IsReading}
 use Rattle.wgsl_lex_templates.proofs.Readings.Pieces.{cut_back, no_shorter}
 use Rattle.wgsl_lex_templates.proofs.Readings.Reached.{shortened}
-use Rattle.wgsl_lex_templates.proofs.TextLists.Ends.{tell_end, behind_past}
+use Rattle.wgsl_lex_templates.proofs.TextLists.Ends.{tell_end, after_past}
 use Rattle.wgsl_lex_templates.proofs.TextLists.Scans.{taken}
 use Rattle.wgsl_lex_templates.proofs.attempt.attempt.Goals as goal
 
@@ -38,7 +38,7 @@ pub read-requires-clause-lists : goal.read-requires-clause-lists
 read-requires-clause-lists c =
     tell_end (length c.args.source.now) c.args.tried.now.lists.spans.items
     (drop 1 (chars c.args.text.now)) (chars c.in-Found.after.now)
-    (behind_past (chars c.args.text.now) (chars c.in-Found.from.now) (chars c.in-Found.after.now)
+    (after_past (chars c.args.text.now) (chars c.in-Found.from.now) (chars c.in-Found.after.now)
     (lexeme_view c.in-Found.lexeme) (taken c.args.text.now _ c.in-Found.lexeme c.in-Found.from
     c.in-Found.after c.in-Found.is c.in_ok-lexeme.ensures.value c.in_ok-lexeme.ensures.shorter).front)
     c.requires.lists

@@ -1,4 +1,4 @@
--- What is left behind an expression decides.
+-- What is left after an expression decides.
 use Rattle.std.proofs.Common.{◌∙◌, false, sym, ap}
 use Rattle.wgsl_lex_token.specs.View.{classes}
 use Rattle.wgsl_lex_templates.proofs.Advancing.Rules.{is_whole}

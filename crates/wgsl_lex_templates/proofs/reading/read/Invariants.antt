@@ -20,7 +20,7 @@ invariant-tokens l = record {
   more : BeginWith l.initial.kept.pieces.items l.kept.pieces.items;
   reached : Reaches (length l.source) (chars l.text)
       (held l.kept.pieces.items (length l.initial.kept.pieces.items) (length l.kept.pieces.items))
-      l.behind_word l.depth (chars l.rest);
+      l.after_word l.depth (chars l.rest);
 }
 
 abbrev pub decreases-tokens : goal.decreases-tokens

@@ -1,4 +1,4 @@
--- Kind by kind, and parentheses with what may stand in them.
+-- Kind by kind, and parentheses with what may be in them.
 use Rattle.wgsl_lex_token.specs.View.{classes}
 use Rattle.wgsl_lex_templates.proofs.Readings.Enclosed.{group_put, kind_put, all_put}
 use Rattle.wgsl_lex_templates.proofs.shortened.shorten.Goals as goal

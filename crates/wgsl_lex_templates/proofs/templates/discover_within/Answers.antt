@@ -2,7 +2,7 @@ use Rattle.std.proofs.Common.{rules, ◌≡◌, ◌≤◌, List, [], ◌∷◌, 
 use Rattle.std.specs.Prelude.{◌^◌}
 use Rattle.std.proofs.lemmas.List.{length-append}
 use Rattle.wgsl_model.specs.Tokens.Places.{place, width}
-use Rattle.wgsl_theory_grammar.proofs.Tokens.Cuts.{joined, behind_token}
+use Rattle.wgsl_theory_grammar.proofs.Tokens.Cuts.{joined, after_token}
 use Rattle.wgsl_theory_grammar.proofs.Tokens.Widths.{within}
 use Rattle.wgsl_lex_templates.specs.declared.kept.Piece.{Piece}
 use Rattle.wgsl_lex_templates.specs.Readings.{IsOutcome}
@@ -14,14 +14,14 @@ use Rattle.wgsl_theory_grammar.proofs.Tokens.Places.{bytes_width}
 use Rattle.wgsl_lex_templates.proofs.TextLists.Listed.{before_all, no_lists}
 use Rattle.wgsl_lex_templates.proofs.Readings.Found.{none_right, right_more}
 use Rattle.wgsl_lex_templates.proofs.Readings.Pieces.{cut_back}
-use Rattle.wgsl_lex_templates.proofs.TextLists.Stepped.{cut, ends_source, told_behind, attempts_fit, reads_fit, reads_more, tried_none, tried_found, greater_fits, listed_costs, all_done}
+use Rattle.wgsl_lex_templates.proofs.TextLists.Stepped.{cut, ends_source, told_after, attempts_fit, reads_fit, reads_more, tried_none, tried_found, greater_fits, listed_costs, all_done}
 use Rattle.wgsl_lex_templates.proofs.templates.discover_within.Goals as goal
 
 pub characters-init : goal.characters-init
 characters-init c = record {
   text = search rules;
   done = record {
-    behind = [];
+    following = [];
     parts = sym (append-nil (chars c.args.source.now));
     lists = no_lists (length c.args.source.now) c.new-tried.result.lists.spans.items
         c.new-tried.ensures.lists;
@@ -65,7 +65,7 @@ attempt-requires-clause-lists c =
     let k = cut c.args.source.now c.characters.left.now c.in-Some.before.now c.in-Some.field-0-1.now
     c.characters.tried.lists.spans.items c.characters.attempts c.utf8.source
     c.characters.invariant.text c.characters.invariant.done c.in-Some.ensures.cases in
-    told_behind c.args.source.now c.in-Some.before.now c.split_at.result.1.now
+    told_after c.args.source.now c.in-Some.before.now c.split_at.result.1.now
     c.characters.tried.lists.spans.items c.characters.attempts k c.split_at.ensures.back
 
 pub attempt-requires-clause-right : goal.attempt-requires-clause-right
@@ -93,9 +93,9 @@ add-requires c =
     let h = subst (IsOutcome total text pieces) c.in-Some-found.is c.in_ok-found.ensures.value in
     let ends = ends_source c.args.source.now c.in-Some.before.now c.split_at.result.1.now
     c.characters.tried.lists.spans.items c.characters.attempts k c.split_at.ensures.back in
-    let behind = joined source text h.2 ends (behind_token text h.1 h.2 h.0 h.3) in
+    let following = joined source text h.2 ends (after_token text h.1 h.2 h.0 h.3) in
     let fits : width h.2 ≤ total =
-    omega (arith, within source h.2 behind, bytes_width c.args.source.now c.utf8.source) in
+    omega (arith, within source h.2 following, bytes_width c.args.source.now c.utf8.source) in
     let small : total < 2 ^ 64 = search rules in
     let some : 0 < total = omega (
       arith,
@@ -120,9 +120,9 @@ characters-preserved-in_ok-add c =
     let h = subst (IsOutcome total text pieces) c.in-Some-found.is c.in_ok-found.ensures.value in
     let ends = ends_source c.args.source.now c.in-Some.before.now c.split_at.result.1.now
     c.characters.tried.lists.spans.items c.characters.attempts k c.split_at.ensures.back in
-    let behind = joined source text h.2 ends (behind_token text h.1 h.2 h.0 h.3) in
+    let following = joined source text h.2 ends (after_token text h.1 h.2 h.0 h.3) in
     let fits : width h.2 ≤ total =
-    omega (arith, within source h.2 behind, bytes_width c.args.source.now c.utf8.source) in
+    omega (arith, within source h.2 following, bytes_width c.args.source.now c.utf8.source) in
     let start = length c.in-Some.before.now in
     let same : text ≡ 60 ∷ (k.back ++ k.done) = ap chars c.split_at.ensures.back ∙ k.text in
     let all : width source ≤ total = omega (arith, bytes_width c.args.source.now c.utf8.source) in

@@ -10,7 +10,7 @@ use Rattle.wgsl_read_attribute.proofs.attributes.parse_parts.Goals as goal
 pub returns-clause-value : goal.returns-clause-value
 returns-clause-value c =
     let old = state c.args.tokens.now in
-    let behind : after old ≡ state c.expect.new.self = taken_is SymAttr old
+    let following : after old ≡ state c.expect.new.self = taken_is SymAttr old
     (state c.expect.new.self) (first_of old) c.in_ok-expect.ensures.value in
     grind (arith, common_steps, attribute_parts_is)
 

@@ -5,7 +5,7 @@ use Rattle.wgsl_tree_path.proofs.Parts.{one_part, more_parts}
 use Rattle.wgsl_tree_path.proofs.Reading.{faults, fault_free, accepted}
 use Rattle.wgsl_tree_path.proofs.read.read_components.Goals as goal
 
--- one more name, and the parts behind it
+-- one more name, and the parts after it
 name_more : (names : List (String Global)) (name : String Global) (part : List ℕ) (parts : List (List ℕ))
     → string_bytes name ≡ part
     → map string_bytes (names ++ (name ∷ [])) ++ parts ≡ map string_bytes names ++ (part ∷ parts)

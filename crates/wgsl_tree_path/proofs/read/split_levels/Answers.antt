@@ -1,7 +1,7 @@
 use Rattle.std.proofs.Common.{sym, ◌∙◌, ap, drop, [], arith, rules}
 use Rattle.wgsl_model.specs.Trees.Paths.{path_parts, levels}
 use Rattle.wgsl_tree_path.proofs.Parts.{one_part, more_parts, shorter}
-use Rattle.wgsl_tree_path.proofs.Reading.{is_other, is_same, levels_other, levels_super, behind_super}
+use Rattle.wgsl_tree_path.proofs.Reading.{is_other, is_same, levels_other, levels_super, after_super}
 use Rattle.wgsl_tree_path.proofs.read.split_levels.Goals as goal
 
 pub returns-then-ne-clause-levels : goal.returns-then-ne-clause-levels
@@ -27,7 +27,7 @@ levels-preserved c =
     let same = is_same _ c.if-ne.ensures in (
       search rules,
       omega (arith, ap levels parts ∙ levels_super part rest same, c.levels.invariant.1),
-      sym (behind_super part rest same) ∙ sym (ap (λ xs. drop (levels xs) xs) parts) ∙ c.levels.invariant.2,
+      sym (after_super part rest same) ∙ sym (ap (λ xs. drop (levels xs) xs) parts) ∙ c.levels.invariant.2,
       omega (
         arith,
         shorter c.levels.left.now c.in-Some.part c.in-Some.rest c.in-Some.ensures.cases,

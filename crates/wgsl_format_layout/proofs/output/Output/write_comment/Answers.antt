@@ -22,7 +22,7 @@ returns-clause-laid c ps e i =
     let gap = gap_view c.in_ok-gap.gap in
     let class = comment_class c.args.comment.kind in
     let source = chars c.args.comment.text.now in
-    let depth = c.depth_behind-depth.result in
+    let depth = c.depth_after-depth.result in
     let begins = c.begins_line-begins.result in
     let text = shown_piece (indentation layout depth ++ codes " ") begins (piece class source 0) in
     let written = gap_text layout gap ++ text in
@@ -33,8 +33,8 @@ returns-clause-laid c ps e i =
     (role_view c.args.right) c.args.owned [] source text (gap_text layout gap) written
     c.args.line_ends depth new.line.column gap last ps e i c.in_ok-gap.ensures
     (ap₂ (λ d b. shown_piece (indentation layout d ++ codes " ") b (piece class source 0))
-    c.depth_behind-depth.ensures c.begins_line-begins.ensures)
-    refl refl c.depth_behind-depth.ensures c.comment_last-self.ensures more.line.column)
+    c.depth_after-depth.ensures c.begins_line-begins.ensures)
+    refl refl c.depth_after-depth.ensures c.comment_last-self.ensures more.line.column)
     ∙ shown_on old.text new written _ more
     ∙ ap (λ (l : Layout). shown new (laid_from (layout_view l)
     (record { state = in_line_of (spot_of old).state depth; last = last; column = new.line.column }) ps))

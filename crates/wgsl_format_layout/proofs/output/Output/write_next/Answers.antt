@@ -7,7 +7,7 @@ use Rattle.wgsl_format_layout.proofs.output.Output.write_next.Goals as goal
 
 pub range-requires-clause-start_le_end : goal.range-requires-clause-start_le_end
 range-requires-clause-start_le_end c = (next_at c.args.source.now c.args.tokens.now c.args.at
-    c.requires.left.0 _ c.utf8.source c.requires.inside c.requires.left.1).stands.behind
+    c.requires.left.0 _ c.utf8.source c.requires.inside c.requires.left.1).stands.following
 
 pub range-requires-clause-start_boundary : goal.range-requires-clause-start_boundary
 range-requires-clause-start_boundary c =

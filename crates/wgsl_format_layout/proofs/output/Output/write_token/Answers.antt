@@ -1,7 +1,7 @@
 use Rattle.std.proofs.Common.{◌≡◌, ◌++◌, chars, refl, sym, ap, ◌∙◌}
 use Rattle.std.proofs.lemmas.Result.{IfOk-weaker}
 use Rattle.wgsl_model_tidy.specs.LaidOut.{gap_text}
-use Rattle.wgsl_model_tidy.specs.Open.{behind_token}
+use Rattle.wgsl_model_tidy.specs.Open.{after_token}
 use Rattle.wgsl_lex_token.specs.View.{class_of_kind}
 use Rattle.wgsl_format_layout.specs.View.{role_view}
 use Rattle.wgsl_format_layout.specs.Gaps.{gap_view}
@@ -36,17 +36,17 @@ abbrev after : After-take → Output
 after c = record { text = c.put.new.self; state = c.take.new.self; last = Token }
 
 written : (c : After-take)
-    → state_view c.take.new.self ≡ behind_token (state_view c.args.self.now.state) c.depth_behind-self.result
+    → state_view c.take.new.self ≡ after_token (state_view c.args.self.now.state) c.depth_after-self.result
     (class_of_kind c.args.token.kind) (role_view c.args.right) (style_view c.if-token.style)
     → IsWritten c.args.self.now c.args.token (role_view c.args.right) (chars c.args.text.now) c.args.line_ends (after c)
 written c taken = record {
-  depth = c.depth_behind-self.result;
+  depth = c.depth_after-self.result;
   gap = gap_view c.in_ok-gap.gap;
   plain = c.requires;
   gap_is = c.in_ok-gap.ensures;
-  depth_is = c.depth_behind-self.ensures;
+  depth_is = c.depth_after-self.ensures;
   adds = added c;
-  state = taken ∙ ap (behind_token (state_view c.args.self.now.state) c.depth_behind-self.result
+  state = taken ∙ ap (after_token (state_view c.args.self.now.state) c.depth_after-self.result
       (class_of_kind c.args.token.kind) (role_view c.args.right)) (first c);
   last = refl;
 }

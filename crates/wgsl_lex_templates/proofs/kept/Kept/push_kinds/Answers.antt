@@ -3,7 +3,7 @@ use Rattle.std.proofs.lemmas.List.Elements.{All-pop, All-push, All-same}
 use Rattle.wgsl_lex_token.specs.View.{class_of_kind, classes}
 use Rattle.wgsl_lex_templates.proofs.Readings.Pushes.{pushed}
 use Rattle.wgsl_lex_templates.proofs.Readings.Held.{gone_through, ends_before}
-use Rattle.wgsl_lex_templates.proofs.Readings.Rests.{held_left, rest_begun, token_taken, last_begun, stretch_begun, less_at_rest, less_behind, less_at_last, less_at_stretch}
+use Rattle.wgsl_lex_templates.proofs.Readings.Rests.{held_left, rest_begun, token_taken, last_begun, stretch_begun, less_at_rest, less_after, less_at_last, less_at_stretch}
 use Rattle.wgsl_lex_templates.proofs.kept.Kept.push_kinds.Goals as goal
 
 -- the last rest is taken
@@ -26,7 +26,7 @@ pieces-preserved-then-left c =
 
 -- a token
 pub pieces-smaller-in-Token : goal.pieces-smaller-in-Token
-pieces-smaller-in-Token c = less_behind c.pieces.left.at c.pieces.left.to c.pieces.rests.items
+pieces-smaller-in-Token c = less_after c.pieces.left.at c.pieces.left.to c.pieces.rests.items
     (omega (arith, c.if-left.false))
 
 pub pieces-preserved-in-Token : goal.pieces-preserved-in-Token
@@ -45,7 +45,7 @@ pieces-preserved-in-Token c =
           c.pieces.invariant.whole;
     }
 
--- a stretch that stands last
+-- a stretch that is last
 pub pieces-smaller-then-left-2 : goal.pieces-smaller-then-left-2
 pieces-smaller-then-left-2 c =
     let ps = c.args.self.now.pieces.items in
@@ -70,7 +70,7 @@ pieces-preserved-then-left-2 c =
       whole = ap (λ u. classes c.pieces.kinds.items ++ u) (sym same) ∙ c.pieces.invariant.whole;
     }
 
--- a stretch with a rest behind it
+-- a stretch with a rest after it
 pub pieces-smaller : goal.pieces-smaller
 pieces-smaller c =
     let ps = c.args.self.now.pieces.items in

@@ -35,9 +35,9 @@ same c = c.in_ok-extend_from_slice.ensures.items
 pub returns-clause-left : goal.returns-clause-left
 returns-clause-left c =
     let t = c.args.self.now in ap (λ (ends : List ℕ). from_next t.next
-    (left_exists t.total (reverse ends) t.behind_word (chars t.rest.now)).0) (same c)
+    (left_exists t.total (reverse ends) t.after_word (chars t.rest.now)).0) (same c)
 
 pub returns-clause-ending : goal.returns-clause-ending
 returns-clause-ending c =
     let t = c.args.self.now in ap (λ (ends : List ℕ). end_from_next t.next
-    (left_exists t.total (reverse ends) t.behind_word (chars t.rest.now)).1) (same c)
+    (left_exists t.total (reverse ends) t.after_word (chars t.rest.now)).1) (same c)

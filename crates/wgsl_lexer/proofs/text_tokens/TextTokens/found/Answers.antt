@@ -2,7 +2,7 @@ use Rattle.std.proofs.Common.{◌≡◌, ◌∷◌, ◌∙◌, ◌-◌, ◌≤�
 use Rattle.wgsl_model.specs.Tokens.Templates.{is_word}
 use Rattle.wgsl_model.specs.Tokens.TokenList.{place, width}
 use Rattle.wgsl_lex_scanner.specs.View.{lexeme_view}
-use Rattle.wgsl_theory_grammar.proofs.Tokens.Cuts.{cut_at, joined, behind_first, behind_token}
+use Rattle.wgsl_theory_grammar.proofs.Tokens.Cuts.{cut_at, joined, after_first, after_token}
 use Rattle.wgsl_theory_grammar.proofs.Tokens.Places.{bytes_width}
 use Rattle.wgsl_lex_templates.proofs.TextLists.Known.{known_end}
 use Rattle.wgsl_lex_templates.specs.Lists.{AreTold}
@@ -18,20 +18,20 @@ invariant_of-self c =
     let l = c.args.self.now in
     let front = cut_at (chars l.rest.now) (chars c.args.from.now) (chars c.args.after.now)
     (lexeme_view c.args.lexeme) c.requires.front in
-    let shorter : length c.behind_first-rest.result.now ≤ length l.rest.now =
-    omega (arith, c.requires.from, c.behind_first-rest.ensures.within) in
+    let shorter : length c.after_first-rest.result.now ≤ length l.rest.now =
+    omega (arith, c.requires.from, c.after_first-rest.ensures.within) in
     record {
       within = omega (arith, l.within, shorter);
       told = subst (λ x. AreTold l.total l.templates.lists.spans.items x)
-          (sym c.behind_first-rest.ensures.value)
+          (sym c.after_first-rest.ensures.value)
           (known_end l.total l.templates.lists.spans.items (chars l.rest.now)
           (drop 1 (chars c.args.from.now)) (joined (chars l.rest.now) (chars c.args.from.now)
-          (drop 1 (chars c.args.from.now)) front.0 (behind_first (chars c.args.from.now))) l.told);
+          (drop 1 (chars c.args.from.now)) front.0 (after_first (chars c.args.from.now))) l.told);
       reserved = omega (arith, l.reserved, c.leave.ensures.len, c.leave.ensures.capacity);
       enough = omega (
         arith,
         l.enough,
-        fewer (l.total - length l.rest.now) (l.total - length c.behind_first-rest.result.now)
+        fewer (l.total - length l.rest.now) (l.total - length c.after_first-rest.result.now)
             l.templates.lists.spans.items (omega (arith, shorter)),
       );
     }
@@ -41,12 +41,12 @@ returns-then-leave-clause-value c ts e h =
     let l = c.args.self.now in
     let left = subst (λ b. LeavesEnds c.span_of-span.result.start (reverse l.ends.items) b
     (reverse c.leave.new.ends.items)) c.if-leave.true c.leave.ensures.value in
-    end_left l.total (reverse l.ends.items) (reverse c.leave.new.ends.items) l.behind_word
+    end_left l.total (reverse l.ends.items) (reverse c.leave.new.ends.items) l.after_word
     (chars l.rest.now) (chars c.args.from.now) (chars c.args.after.now)
-    (chars c.behind_first-rest.result.now) (lexeme_view c.args.lexeme)
+    (chars c.after_first-rest.result.now) (lexeme_view c.args.lexeme)
     c.span_of.result.start c.span_of.result.end ts e c.requires.front
     (left ∙ ap (λ x. x ∷ reverse c.leave.new.ends.items)
-    (c.span_of-span.ensures.start ∙ sym c.span_of.ensures.start)) c.behind_first-rest.ensures.value
+    (c.span_of-span.ensures.start ∙ sym c.span_of.ensures.start)) c.after_first-rest.ensures.value
     c.span_of.ensures.start c.span_of.ensures.end h
 
 pub overflow_sub-end : goal.overflow_sub-end
@@ -81,7 +81,7 @@ overflow_sub-self c =
 pub invariant_of-self-in-Some : goal.invariant_of-self-in-Some
 invariant_of-self-in-Some c =
     let l = c.args.self.now in
-    let behind = behind_token (chars l.rest.now) (chars c.args.from.now) (chars c.args.after.now)
+    let following = after_token (chars l.rest.now) (chars c.args.from.now) (chars c.args.after.now)
     (lexeme_view c.args.lexeme) c.requires.front in
     let less = entered l.total l.templates.lists.spans.items l.rest.now c.args.from.now
     c.args.after.now (lexeme_view c.args.lexeme) c.span_of-span.result.start c.in-Some.end
@@ -90,7 +90,7 @@ invariant_of-self-in-Some c =
     record {
       within = omega (arith, l.within, c.requires.after);
       told = known_end l.total l.templates.lists.spans.items (chars l.rest.now)
-          (chars c.args.after.now) behind l.told;
+          (chars c.args.after.now) following l.told;
       reserved = omega (
         arith,
         l.reserved,
@@ -118,7 +118,7 @@ returns-in-Some-clause-value c ts e h =
     less c.span_of-span.ensures.start c.in-Some.ensures.2 in
     let last : c.in-Some.end - 1 ≡ place l.total found.0 = omega (arith, found.2) in
     let ends = c.enter.ensures.value ∙ ap₂ (λ a b. a ∷ b) last kept.0 in
-    start_left l.total (reverse l.ends.items) l.behind_word (chars l.rest.now)
+    start_left l.total (reverse l.ends.items) l.after_word (chars l.rest.now)
     (chars c.args.from.now) (chars c.args.after.now) found.0
     (lexeme_view c.args.lexeme) c.span_of-span.result.start c.span_of-span.result.end ts e
     c.requires.front (before_end_of l.total (reverse l.ends.items) (chars c.args.from.now)
@@ -129,12 +129,12 @@ returns-in-Some-clause-value c ts e h =
 pub invariant_of-self-2 : goal.invariant_of-self-2
 invariant_of-self-2 c =
     let l = c.args.self.now in
-    let behind = behind_token (chars l.rest.now) (chars c.args.from.now) (chars c.args.after.now)
+    let following = after_token (chars l.rest.now) (chars c.args.from.now) (chars c.args.after.now)
     (lexeme_view c.args.lexeme) c.requires.front in
     record {
       within = omega (arith, l.within, c.requires.after);
       told = known_end l.total l.templates.lists.spans.items (chars l.rest.now)
-          (chars c.args.after.now) behind l.told;
+          (chars c.args.after.now) following l.told;
       reserved = omega (arith, l.reserved, c.leave.ensures.len, c.leave.ensures.capacity);
       enough = omega (
         arith,
@@ -150,7 +150,7 @@ returns-clause-value c ts e h =
     let kept = subst (λ b. LeavesEnds c.span_of-span.result.start (reverse l.ends.items) b
     (reverse c.leave.new.ends.items)) c.if-leave.false c.leave.ensures.value in
     let word = c.is_word-self.ensures ∙ ap is_word c.kind-kind.ensures in
-    token_left l.total (reverse l.ends.items) l.behind_word (chars l.rest.now) (chars c.args.from.now)
+    token_left l.total (reverse l.ends.items) l.after_word (chars l.rest.now) (chars c.args.from.now)
     (chars c.args.after.now) (lexeme_view c.args.lexeme) c.span_of-span.result.start
     (lexeme_view c.args.lexeme) c.span_of-span.result.end ts e
     c.requires.front (before_end_of l.total (reverse l.ends.items)

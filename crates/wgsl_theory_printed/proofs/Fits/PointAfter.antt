@@ -48,7 +48,7 @@ begins_on (either a b) k l more h text e =
     (λ f. or_left (begins a l (text ++ more)) _ (begins_on a k l more h text f))
     (λ f. or_right (begins a l (text ++ more)) _ (begins_on b k l more h text f))
 
--- a spelling at the front, and what passes behind it
+-- a spelling at the front, and what passes after it
 record Front (p : Pattern) (k : List ℕ → Bool) (text : List ℕ) : Type 0 where
   front : List ℕ
   rest : List ℕ
@@ -116,9 +116,9 @@ one_of_two : {X : Type 0} (a b : Pattern) (text : List ℕ) → spells (either a
 unfolding begins
 one_of_two a b text h f g = by_either (spells a text) (spells b text) h f g
 
--- ---- what stands before a character
+-- ---- what is before a character
 
--- in each spelling with a character, what stands before it passes
+-- in each spelling with a character, what is before it passes
 abbrev Before : (ℕ → Bool) → ℕ → Pattern → Type 0
 Before q d nothing = Unit {0}
 Before q d empty = Unit {0}
@@ -216,7 +216,7 @@ lacking q (both a b) l text h e = go (λ m k. lacking q a m f.front k) (λ m k. 
 this_one : (q : ℕ → Bool) (n c : ℕ) → q n ≡ true → (c == n) ≡ true → q c ≡ true
 this_one q n c h e = ap q (eqb-true c n e) ∙ h
 
--- what stands before a point in digits with one
+-- what is before a point in digits with one
 point_before : (p : ℕ → Bool) → p 46 ≡ false → Before p 46 (numbers.digits_with_point p)
 point_before p n = (((tt, inl n), inr (((λ c h. h), (λ c h. h)), (tt, inl n))), (tt, inl (rw n refl)))
 
@@ -282,7 +282,7 @@ float_before suffix t u z h =
     (λ e. inl (before_it is_ascii_digit 46 _ (decimal_before suffix t) u z e))
     (λ e. inr (hexadecimal_before _ ((point_before is_ascii_hexdigit refl, (tt, inl refl)), inl (rw t refl)) u z e))
 
--- what stands before a point in a number
+-- what is before a point in a number
 number_before : (u z : List ℕ) → spells number_spelling (u ++ (46 ∷ z)) ≡ true → IsDigitsOrHexadecimal u
 number_before u z h =
     one_of_two _ _ (u ++ (46 ∷ z)) h (λ e. absurd (whole_never empty refl u z e))
@@ -305,10 +305,10 @@ no_mark p l text h x =
     subst (Each (λ c. not (is_x c))) x.whole (spelled_each (λ c. not (is_x c)) p l text h) in
     true≢false (sym each.1.0 ∙ ap not x.marked)
 
-behind_mark : (p : Pattern) → Lacks is_ascii_hexdigit p → (text : List ℕ)
+after_mark : (p : Pattern) → Lacks is_ascii_hexdigit p → (text : List ℕ)
     → spells (numbers.hexadecimal p) text ≡ true → IsHexadecimal text → ⊥
 unfolding begins
-behind_mark p l text h x =
+after_mark p l text h x =
     let k : spells (numbers.hexadecimal p) (48 ∷ (x.mark ∷ x.digits)) ≡ true =
     subst (λ t. spells (numbers.hexadecimal p) t ≡ true) x.whole h in
     lacking is_ascii_hexdigit p l x.digits (and_parts (is_x x.mark) _ k).1 x.each
@@ -351,7 +351,7 @@ suffixed_more n a b d = record {
   hexadecimals = λ text h x. one_of_two _ _ text h
       (λ e. no_mark (numbers.decimal_number (one (λ c. c == n)))
       ((one_no_mark 48 refl, one_no_mark n d), (nonzero_no_mark, (digit_no_mark, one_no_mark n d))) text e x)
-      (λ e. behind_mark (both (numbers.digits is_ascii_hexdigit) (one (λ c. c == n)))
+      (λ e. after_mark (both (numbers.digits is_ascii_hexdigit) (one (λ c. c == n)))
       (inr (λ c h. this_one (λ e. not (is_ascii_hexdigit e)) n c (ap not b) h)) text e x);
 }
 
@@ -381,7 +381,7 @@ abstract_more = record {
       (λ e. one_of_two _ _ text e
       (λ f. no_mark (both (numbers.digits is_ascii_digit) (numbers.exponent is_e))
       ((digit_no_mark, digit_no_mark), exponent_no_mark) text f x)
-      (λ f. behind_mark (either (both (numbers.digits_with_point is_ascii_hexdigit) (numbers.at_most_one
+      (λ f. after_mark (either (both (numbers.digits_with_point is_ascii_hexdigit) (numbers.at_most_one
       (numbers.exponent is_p))) (both (numbers.digits is_ascii_hexdigit) (numbers.exponent is_p)))
       (inl (inr (inl point_no_hexdigit), inl point_no_hexdigit), inr (inl p_no_hexdigit)) text f x));
 }
@@ -394,7 +394,7 @@ float_more n a d = record {
       (λ e. no_mark (both (either (numbers.digits_with_point is_ascii_digit) (numbers.digits is_ascii_digit))
       (both (numbers.at_most_one (numbers.exponent is_e)) (one (λ c. c == n))))
       ((point_no_mark, (digit_no_mark, digit_no_mark)), ((exponent_no_mark, tt), one_no_mark n d)) text e x)
-      (λ e. behind_mark (both (either (numbers.digits_with_point is_ascii_hexdigit) (numbers.digits is_ascii_hexdigit))
+      (λ e. after_mark (both (either (numbers.digits_with_point is_ascii_hexdigit) (numbers.digits is_ascii_hexdigit))
       (both (numbers.exponent is_p) (one (λ c. c == n)))) (inr (inl (inl p_no_hexdigit))) text e x);
 }
 
@@ -413,9 +413,9 @@ abstract_class limit n k h = go (nat_lt n limit) h
     go false e = absurd (cc)
 
 -- a number of another class does not go on with a point
-pub no_point_behind : (text : List ℕ) (k : Kind) → number_of text ≡ Some k
+pub no_point_after : (text : List ℕ) (k : Kind) → number_of text ≡ Some k
     → (k.class == AbstractInt) ≡ false → (z : List ℕ) → spells number_spelling (text ++ (46 ∷ z)) ≡ true → ⊥
-no_point_behind text k v n z h =
+no_point_after text k v n z h =
     go (number_before text z h) (spells (whole_number empty) text)
     (spells (whole_number i_suffix) text) (spells (whole_number u_suffix) text)
     (spells abstract_float text) (spells (float f_suffix) text) (spells (float h_suffix) text)

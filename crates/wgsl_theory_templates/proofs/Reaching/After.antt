@@ -20,12 +20,12 @@ use Rattle.wgsl_theory_templates.proofs.Reaching.Moves.{kinds, stretch, all_role
 use Rattle.wgsl_theory_templates.proofs.Reaching.Closes.{GoesOn, IsList, closes}
 
 -- ---- comparisons and shifts
--- no list of expressions stands before a token that begins with `>` and is reached
+-- no list of expressions is before a token that begins with `>` and is reached
 abbrev pub NoListAt : Place → List Token → Type 0
 NoListAt p xs = reach p 0 0 (kinds xs) ≡ true → (w : List ExpressionNode)
     → Derives checking written expressions w (stretch 0 0 xs) → ⊥
 
--- from each shift before these tokens to a token that begins with `>` stands a list of expressions
+-- from each shift before these tokens to a token that begins with `>` is a list of expressions
 abbrev pub ShiftCloses : Place → List Token → Type 0
 ShiftCloses p ys = (v : ExpressionNode) (xs : List Token) → D shift_expression v xs ys
     → reach p 0 0 (kinds xs) ≡ true → IsList (stretch 0 0 xs)
@@ -35,7 +35,7 @@ pub shift_closes : (p : Place) (ys : List Token) → GoesOn p ys → ShiftCloses
 shift_closes p ys g v xs d h = closes v xs ys (roll checking written expression v xs ys
     (inl (roll checking written relational_expression v xs ys (inl d)))) p g h
 
--- before the operator and the second operand of a comparison, which stand before what goes on with
+-- before the operator and the second operand of a comparison, which are before what goes on with
 -- a list
 pub compared_closes : (p : Place) (w : BinaryOperator × ExpressionNode) (ms ys : List Token)
     → Means checking D (relational_operator then symbol shift_expression) w ms ys → GoesOn p ys
@@ -90,7 +90,7 @@ begins_so attribute = true
 begins_so compound_statement = true
 begins_so n = false
 
--- what a right side derives begins with such a token, where that is said of what stands behind if
+-- what a right side derives begins with such a token, where that is said of what is after if
 -- it derives nothing
 abbrev pub ending : {A : Type 0} → Bool → Rule A → Bool
 ending b (empty a) = b
@@ -152,7 +152,7 @@ ended_at g e v xs ys d = ended_by D (λ n f w us vs m i. least checking written 
         (symbols_end n e) v xs ys (λ t. absurd cc) d
 
 -- ---- the items of a list
--- from a part that a symbol derives to a token that begins with `>` stands a list of expressions
+-- from a part that a symbol derives to a token that begins with `>` is a list of expressions
 abbrev pub BeginsList : Symbol → Type 0
 BeginsList n = (v : Value n) (xs ys : List Token) → D n v xs ys → (p : Place) → GoesOn p ys
     → reach p 0 0 (kinds xs) ≡ true → IsList (stretch 0 0 xs)

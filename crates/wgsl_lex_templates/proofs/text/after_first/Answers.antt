@@ -3,7 +3,7 @@ use Rattle.std.proofs.lemmas.Grind.{common_steps}
 use Rattle.std.proofs.lemmas.Str.{chars_past_char}
 use Rattle.std.specs.Char.{encode_utf8}
 use Rattle.wgsl_lex_templates.proofs.TextLists.Scans.{no_text}
-use Rattle.wgsl_lex_templates.proofs.text.behind_first.Goals as goal
+use Rattle.wgsl_lex_templates.proofs.text.after_first.Goals as goal
 
 pub returns-in-Some-clause-value : goal.returns-in-Some-clause-value
 returns-in-Some-clause-value c =

@@ -4,7 +4,7 @@ use Rattle.wgsl_model.specs.Tokens.Trivia.{Place}
 use Rattle.wgsl_model_tidy.specs.Pieces.{Piece, comments, put}
 use Rattle.wgsl_model_tidy.specs.LaidOut.{is_comment, closes_one, ends_bracket, has_several}
 use Rattle.wgsl_theory_tidy.proofs.Comments.{piece}
-use Rattle.wgsl_theory_tidy.proofs.NextRoles.{PassesComments, known_behind}
+use Rattle.wgsl_theory_tidy.proofs.NextRoles.{PassesComments, known_after}
 
 -- a token that is no comment is the first in the bracket
 pub first_there : (class : ℕ) (text : List ℕ) (n : ℕ) (ps : List Piece) → is_comment class ≡ false
@@ -19,7 +19,7 @@ several_passes : PassesComments has_several
 several_passes = record { over_character = several_put; over_comment = λ class n ps h. rw h refl }
 
 -- what is so after however many line ends is so after the comments
-pub several_behind : (several : Bool) (behind : ℕ → List Piece)
-    → ((m : ℕ) → has_several (behind m) ≡ several) → (p : Place) (n : ℕ) (text : List ℕ)
-    → has_several (comments behind p n text) ≡ several
-several_behind several behind h p n text = known_behind has_several several_passes several behind h p n text
+pub several_after : (several : Bool) (following : ℕ → List Piece)
+    → ((m : ℕ) → has_several (following m) ≡ several) → (p : Place) (n : ℕ) (text : List ℕ)
+    → has_several (comments following p n text) ≡ several
+several_after several following h p n text = known_after has_several several_passes several following h p n text
