@@ -6,7 +6,7 @@ use Rattle.grammar.specs.Endings.{Ending}
 use Rattle.wgsl_model.specs.Tokens.Places.{place, width}
 use Rattle.wgsl_model.specs.Tokens.Templates.{is_word}
 use Rattle.wgsl_model.specs.Tokens.TokenList.{IsTokenList}
-use Rattle.wgsl_theory_grammar.proofs.Tokens.Cuts.{EndsWith, cut_at, joined, spot_after_first}
+use Rattle.wgsl_theory_grammar.proofs.Tokens.Cuts.{EndsWith, cut_at, joined, after_first}
 use Rattle.wgsl_theory_grammar.proofs.Tokens.Widths.{within}
 use Rattle.wgsl_theory_grammar.proofs.Tokens.Places.{bytes_width, cut_end}
 use Rattle.wgsl_theory_templates.specs.Rest.Left.{LeftOf, left_nothing, left_fault, left_end, left_start, left_token}
@@ -27,7 +27,7 @@ left_cut total ends word text ts e (left_fault x w s from after r) = tt
 left_cut total ends word text ts e (left_end x w s from after kind us f r h) =
     let cut = cut_at text from after kind r in (
       drop 1 from,
-      record { from = from; ends = cut.0; goes_on = spot_after_first from; starts = refl; stops = refl; plain = refl },
+      record { from = from; ends = cut.0; goes_on = after_first from; starts = refl; stops = refl; plain = refl },
       left_cut total x false (drop 1 from) us e h,
     )
 left_cut total ends word text ts e (left_start x s from after end kind us f r b c k h) =
