@@ -1,8 +1,10 @@
 """The texts of tools/fuzz: modules by the grammar of WGSL, mutants of these and of shaders, tokens
 in any order, and plain bytes. Each is made by a source of chance, so the same one makes it again."""
 import re
+import sys
 from pathlib import Path
 
+sys.path.append(str(Path(__file__).resolve().parent / "tables"))
 import node_table
 import token_table
 
