@@ -1,5 +1,6 @@
-"""The texts of tools/fuzz: modules by the grammar of WGSL, mutants of these and of shaders, tokens
-in any order, and plain bytes. Each is made by a source of chance, so the same one makes it again."""
+"""The texts of tools/fuzz: modules by the grammar of WGSL, mutants of these and of shaders,
+tokens in any order, and plain bytes. Each is made by a source of chance, so the same one makes
+it again."""
 import re
 import sys
 from pathlib import Path

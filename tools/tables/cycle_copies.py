@@ -1,5 +1,5 @@
-"""Copies of the kinds that contain each other, for tools/tables/tree_copies.py: of lists and of parts that
-may be left out, and the proofs that a copy is seen as its node is."""
+"""Copies of the kinds that contain each other, for tools/tables/tree_copies.py: of lists and of
+parts that may be left out, and the proofs that a copy is seen as its node is."""
 from cycle_parts import LIBRARY, imports
 from node_table import TABLE, snake
 from tree_terms import bracketed

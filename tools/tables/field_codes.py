@@ -1,4 +1,5 @@
-"""The codes of the fields of a struct that is read from its form, for tools/tables/form_readers.py."""
+"""The codes of the fields of a struct that is read from its form, for
+tools/tables/form_readers.py."""
 from functools import cache
 
 from node_groups import MODULES, plain_modules

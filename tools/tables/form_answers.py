@@ -1,5 +1,6 @@
 """Proofs that parts are written as a form or read from one, for tools/tables/form_proofs.py,
-tools/tables/form_readers.py, tools/tables/statement_forms.py and tools/tables/statement_readers.py."""
+tools/tables/form_readers.py, tools/tables/statement_forms.py and
+tools/tables/statement_readers.py."""
 import re
 
 from node_specs import homes, place

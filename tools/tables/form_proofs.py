@@ -1,6 +1,7 @@
 #!/usr/bin/env python3
-"""Writes the proofs of wgsl_tree_form for the nodes whose writers tools/tables/tree_forms.py writes: for
-the variants of enums, structs that are written in several steps, and nodes with their spans.
+"""Writes the proofs of wgsl_tree_form for the nodes whose writers tools/tables/tree_forms.py
+writes: for the variants of enums, structs that are written in several steps, and nodes with their
+spans.
 
 Run it at the top of the repository, after tools/tables/tree_forms.py:
 

@@ -1,4 +1,5 @@
-"""Lemmas about the codes of plain trees: their items, the terms of their parts, and their imports."""
+"""Lemmas about the codes of plain trees: their items, the terms of their parts, and their
+imports."""
 import re
 from dataclasses import dataclass
 from pathlib import Path
