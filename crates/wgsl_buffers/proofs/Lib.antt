@@ -1,3 +1,4 @@
 pub mod Written
 pub mod Refused
 pub mod PrintedKinds
+pub mod Forms
