@@ -37,7 +37,7 @@ fn piece_of(text: &str) -> (Vec<u8>, &str) {
     }
 }
 
-/// Puts what is written after a `\`, and answers what stands after that.
+/// Puts what is written after a `\`, and returns what is after that.
 fn escaped<'t>(text: &'t str, piece: &mut Vec<u8>) -> &'t str {
     let rest = &text[1..];
     match &text[..1] {
