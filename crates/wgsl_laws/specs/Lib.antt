@@ -4,5 +4,5 @@ pub mod StatementsRows
 pub mod DeclarationsRows
 pub mod DirectivesRows
 pub mod UnitsRows
-pub mod RecognisedAloneRows
+pub mod DialectRows
 pub mod Hashes

@@ -13,7 +13,7 @@ ghost use Rattle.wgsl_laws.specs.StatementsRows.{for_header_tokens, for_header_t
 ghost use Rattle.wgsl_laws.specs.DeclarationsRows.{struct_with_a_last_comma_tokens, struct_with_a_last_comma_tree, entry_point_tokens, entry_point_tree, keyword_as_an_attribute_tokens, keyword_as_an_attribute_tree, reserved_word_as_an_attribute_tokens, reserved_word_as_an_attribute_tree, variable_in_storage_tokens, variable_in_storage_tree, struct_without_members_tokens, struct_without_members_fault, attribute_before_a_struct_tokens, attribute_before_a_struct_tree, unknown_builtin_tokens, unknown_builtin_fault, too_many_arguments_tokens, too_many_arguments_fault, needless_parentheses_tokens, needless_parentheses_fault, wrong_constraint_tokens, wrong_constraint_fault, bare_attribute_at_the_end_tokens, bare_attribute_at_the_end_fault, bare_attribute_in_want_of_memory_tokens, open_arguments_tokens, open_arguments_fault, access_mode_without_storage_tokens, access_mode_without_storage_fault, three_template_arguments_tokens, three_template_arguments_fault, reserved_word_as_a_name_tokens, reserved_word_as_a_name_fault, function_without_an_end_tokens, function_without_an_end_fault};
 ghost use Rattle.wgsl_laws.specs.DirectivesRows.{last_comma_of_names_tokens, last_comma_of_names_tree, rule_of_two_names_tokens, rule_of_two_names_tree, unknown_severity_tokens, unknown_severity_fault, reserved_word_as_a_severity_tokens, reserved_word_as_a_severity_fault};
 ghost use Rattle.wgsl_laws.specs.UnitsRows.{empty_unit_tokens, empty_unit_tree, three_declarations_tokens, three_declarations_tree, directive_after_a_declaration_tokens, directive_after_a_declaration_fault, attribute_before_a_directive_tokens, attribute_before_a_directive_tree, attribute_before_the_first_declaration_tokens, attribute_before_the_first_declaration_tree, directive_with_an_attribute_after_a_declaration_tokens, directive_with_an_attribute_after_a_declaration_fault, bare_attribute_before_a_function_tokens, bare_attribute_before_a_function_fault, attribute_before_no_statement_tokens, attribute_before_no_statement_fault};
-ghost use Rattle.wgsl_laws.specs.RecognisedAloneRows.{minus_minus_recognised_alone_tokens, minus_minus_recognised_alone_fault, reserved_word_recognised_alone_tokens, reserved_word_recognised_alone_fault, severity_recognised_alone_tokens, severity_recognised_alone_tree, template_recognised_alone_tokens, template_recognised_alone_tree, keyword_recognised_alone_tokens, keyword_recognised_alone_fault, attribute_recognised_alone_tokens, attribute_recognised_alone_fault};
+ghost use Rattle.wgsl_laws.specs.DialectRows.{minus_minus_dialect_tokens, minus_minus_dialect_fault, reserved_word_dialect_tokens, reserved_word_dialect_fault, severity_dialect_tokens, severity_dialect_tree, template_dialect_tokens, template_dialect_tree, keyword_dialect_tokens, keyword_dialect_fault, attribute_dialect_tokens, attribute_dialect_fault};
 
 /// Expressions, literals and template lists.
 pub fn expressions()
@@ -168,17 +168,17 @@ pub fn units()
 {}
 
 /// Texts that are recognised alone.
-pub fn recognised_alone()
-    ensures minus_minus_recognised_alone { IsNamedSmall expression
-        minus_minus_recognised_alone_tokens finished minus_minus_recognised_alone_fault }
-    ensures reserved_word_recognised_alone { IsNamedSmall global_declaration
-        reserved_word_recognised_alone_tokens finished reserved_word_recognised_alone_fault }
-    ensures severity_recognised_alone { Derives checking small global_directive
-        severity_recognised_alone_tree severity_recognised_alone_tokens }
-    ensures template_recognised_alone { Derives checking small global_declaration
-        template_recognised_alone_tree template_recognised_alone_tokens }
-    ensures keyword_recognised_alone { IsNamedSmall global_declaration
-        keyword_recognised_alone_tokens finished keyword_recognised_alone_fault }
-    ensures attribute_recognised_alone { IsNamedSmall unit
-        attribute_recognised_alone_tokens finished attribute_recognised_alone_fault }
+pub fn dialect()
+    ensures minus_minus_dialect { IsNamedSmall expression
+        minus_minus_dialect_tokens finished minus_minus_dialect_fault }
+    ensures reserved_word_dialect { IsNamedSmall global_declaration
+        reserved_word_dialect_tokens finished reserved_word_dialect_fault }
+    ensures severity_dialect { Derives checking small global_directive
+        severity_dialect_tree severity_dialect_tokens }
+    ensures template_dialect { Derives checking small global_declaration
+        template_dialect_tree template_dialect_tokens }
+    ensures keyword_dialect { IsNamedSmall global_declaration
+        keyword_dialect_tokens finished keyword_dialect_fault }
+    ensures attribute_dialect { IsNamedSmall unit
+        attribute_dialect_tokens finished attribute_dialect_fault }
 {}
