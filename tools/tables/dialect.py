@@ -11,6 +11,7 @@ It reads the rules from the definitions. Nothing rests on it: the prover checks 
 """
 import re
 import sys
+import textwrap
 from pathlib import Path
 
 import token_table
@@ -124,6 +125,109 @@ OWN = "parsed"
 OWN_SAYS = "The rules of the language that is parsed where the smaller one has others"
 
 
+# what each symbol derives
+MEANT = dict(re.findall(r"(\w+): (.+)", """
+ident: a name
+type_specifier: a type, or an identifier with the arguments of its template
+template_list: a template list
+arguments: arguments in parentheses
+literal: a literal
+primary_expression: a primary expression
+singular_expression: a primary expression and its components
+component: a component
+unary_expression: an operand with the operators before it
+multiplicative_expression: a product
+negated_expression: a product of the negation that the second minus of `--` begins
+shift_expression: a shift or a sum
+relational_expression: a comparison, a shift or a sum
+expression: an expression
+lhs_expression: a left side
+template_items: the arguments of a template list, one at least, and its end
+template_rest: what follows a comma in a template list: further arguments, or none, and its end
+template_more: what follows an argument in a template list, up to its end
+argument_rest: what follows the `(` of arguments, or a comma in them, up to the `)`
+argument_more: what follows an argument, up to the `)`
+components: the components after a base, none too
+factors: the factors after a first one, none too
+summands: the summands after a first one, none too
+sum_rest: what makes an operand a shift, or a sum of products
+relation_rest: what makes an operand a comparison, or nothing
+and_rest: the operands of `&&` after a first one
+or_rest: the operands of `||` after a first one
+bitwise_and_rest: the operands of `&` after a first one
+bitwise_or_rest: the operands of `|` after a first one
+bitwise_xor_rest: the operands of `^` after a first one
+expression_rest: what makes an operand an expression
+left_side_in_parentheses: a left side in parentheses, with its components
+prefixed_left_side: a left side that begins with `*` or `&`
+returning_part: `return`, with a value if there is one, without its `;`
+local_part: a `var` among statements, without its `;`
+value_part: a `let` or `const` among statements, without its `;`
+phony_part: an assignment to `_`
+simple_part: a call, an assignment, an increment or a decrement that does not begin with `(`
+assert_part: `const_assert` and its expression, without its `;`
+left_side_rest: what follows a left side: an operator and a value, or `++` or `--`
+name_rest_statement: what follows the name that a statement begins with
+parenthesized_statement: an assignment, an increment or a decrement that begins with `(`
+plain_statement: a statement that has no attributes, with its `;`
+compound_statement: a block
+statement: a statement
+switch_clause: a clause of a `switch`
+case_selector: a selector of a clause
+for_init: what is done before the first turn of a `for`
+for_update: what is done after each turn of a `for`
+selectors: selectors with commas between, also after the last
+statement_rest: statements and the `}` after them
+loop_rest: the statements of a `loop`, its `continuing` if there is one, and the `}`
+continuing_rest: the statements of a `continuing`, its `break if` if there is one, and the `}`
+clause_rest: further clauses of a `switch` and the `}` after them
+else_rest: the clauses of an `if` after the first
+init_part: what is done before the first turn of a `for`, if anything, and its `;`
+condition_part: the condition of a `for`, if there is one, and its `;`
+update_part: what is done after each turn of a `for`, if anything, and the `)`
+braced_part: a statement that ends with a block
+ended_part: a statement other than `break` that a `;` ends, with its `;`
+clause_part: a clause of a `switch` after its attributes
+continuing_part: a `continuing`
+attribute: an attribute
+var_template: `var` and its template
+typed_ident: a name, and its type if there is one
+struct_member: a member of a structure
+formal_parameter: a parameter of a function
+global_declaration: a declaration of a module
+diagnostic_severity: `diagnostic (` and a severity
+unit: a module
+member_items: the members of a structure, one at least, and the `}`
+member_rest: what follows a comma between members, up to the `}`
+member_more: what follows a member, up to the `}`
+parameter_rest: what follows the `(` of parameters, or a comma between them, up to the `)`
+parameter_more: what follows a parameter, up to the `)`
+name_items: the names of a directive, one at least, and its `;`
+name_rest: what follows a comma between the names of a directive, up to its `;`
+name_more: what follows a name of a directive, up to its `;`
+attribute_list: attributes, none too
+var_part: a `var` of a module after its attributes
+override_part: an `override` after its attributes
+function_part: a function after its attributes
+const_part: a `const` of a module after its attributes
+alias_part: an `alias` after its attributes
+struct_part: a `struct` after its attributes
+enable_part: an `enable` after its attributes
+requires_part: a `requires` after its attributes
+diagnostic_part: a `diagnostic` after its attributes
+attributed_part: a `var`, an `override` or a function, after its attributes
+led_part: a `const`, an `alias`, a `struct` or a `const_assert`, after its attributes
+directive_part: a directive after its attributes
+declaration_list: declarations, none too
+front: the directives and the declarations of a module, or those that are left
+"""))
+
+
+def documented(text):
+    """A sentence as the comment of an item."""
+    return textwrap.indent(textwrap.fill(f"{text}.", 96), "/// ")
+
+
 def in_parts(order, needed):
     """The symbols that are needed, by the part of the grammar that they belong to."""
     parts = {part: [] for part in SAYS}
@@ -167,6 +271,15 @@ class Writer:
                     return f"BEGINS_{'_'.join(map(capitals, symbols))}"
         return f"CONTINUES_{capitals(users[classes][0])}"
 
+    def meant(self, name):
+        """What the tokens of a set do, by its name."""
+        does, symbols = name.lower().split("_", 1)
+        if does == "continues":
+            return f"The tokens with which {MEANT[symbols]} goes on"
+        parts = [rest for rest in MEANT if symbols.endswith(f"_{rest}") and symbols.removesuffix(f"_{rest}") in MEANT]
+        several = [symbols.removesuffix(f"_{rest}") for rest in parts[:1]] + (parts[:1] or [symbols])
+        return f"The tokens that begin {' or '.join(re.sub(', (with|none|after) .*', '', MEANT[it]) for it in several)}"
+
     def first_symbols(self, steps):
         """The symbols at the front of some steps, up to the first that cannot be empty."""
         symbols = []
@@ -204,7 +317,8 @@ class Writer:
         return f"{step[0]}({', '.join([self.kinds(step[1])] + list(map(self.steps, step[2:])))})"
 
     def rules(self, part):
-        consts = [f"pub const {capitals(n)}: &[Step] = {self.steps(self.found[n])};" for n in self.parts[part]]
+        consts = [f"{documented(f'The steps of {MEANT[n[1]]}')}\npub const {capitals(n)}: &[Step] = {self.steps(self.found[n])};"
+                  for n in self.parts[part]]
         body = "\n\n".join(consts)
         used = [v for v in ("Choice", "Repeat", "Rule", "Token") if v + "(" in body]
         lines = [f"//! {SAYS.get(part, OWN_SAYS)}, written by tools/tables/dialect.py.", ""]
@@ -213,12 +327,12 @@ class Writer:
         for classes, name in self.names.items():
             if self.homes[name] == part:
                 kinds = ", ".join(f"TokenKind::{c}" for c in classes)
-                lines += [f"pub const {name}: &[TokenKind] = &[{kinds}];", ""]
+                lines += [documented(self.meant(name)), f"pub const {name}: &[TokenKind] = &[{kinds}];", ""]
         return "\n".join(lines + [body, ""])
 
 
 def symbols_text(order):
-    lines = ["/// A symbol: those of the written grammar, and after them those that stand for a part of a rule.",
+    lines = ["/// A symbol: those of the written grammar, and after them those that are a part of a rule.",
              "#[derive(Clone, Copy)]", "pub enum Symbol {"]
     return lines + [f"    {camel(n)}," for n in order] + ["}", ""]
 
@@ -236,7 +350,7 @@ def view_text(order):
 
 def side_text(name, language, homes):
     """The function that has the steps of each symbol in a language, by the part with its rule."""
-    lines = [f"/// The steps of a symbol in {language}.", f"fn {name}_side(symbol: Symbol) -> &'static [Step]",
+    lines = [f"/// Returns the steps of a symbol in {language}.", f"fn {name}_side(symbol: Symbol) -> &'static [Step]",
              f"    ensures {{ steps_view result.now ≡ rule_steps {name} (symbol_view symbol) }}", "{", "    match symbol {"]
     lines += [f"        Symbol::{camel(n)} => {part}::{capitals(n)}," for n, part in homes.items()]
     return lines + ["    }", "}", ""]
@@ -254,7 +368,7 @@ def rules_text(order, homes, own):
              "use crate::dialect::Dialect;"]
     lines += [f"use crate::{part};" for part in [*SAYS, OWN]]
     lines += ["use crate::step::Step;", "", *symbols_text(order),
-              "/// The steps of a symbol.", "pub fn right_side(dialect: Dialect, symbol: Symbol) -> &'static [Step]",
+              "/// Returns the steps of a symbol in a dialect.", "pub fn right_side(dialect: Dialect, symbol: Symbol) -> &'static [Step]",
               "    ensures { steps_view result.now ≡ rule_steps (dialect_view dialect) (symbol_view symbol) }", "{",
               "    match dialect {", "        Dialect::Parsed => parsed_side(symbol),",
               "        Dialect::Recognized => recognized_side(symbol),", "    }", "}", ""]

@@ -29,25 +29,32 @@ RULES = "LawNodes"
 # proves a law, if not a lemma for each of its kinds.
 LAWS = """
 equality::equivalence = -- The test is an equivalence.
-equality::literals LiteralExpression -- Where two literals are equal: where they are one.
+equality::literals LiteralExpression -- Two literals are equal where they are one.
 equality::expressions Expression
-    -- Where two expressions are equal: where they are one with their spans set aside.
-equality::nodes ExpressionNode -- The same of expressions with their places.
-equality::calls FunctionCall -- The same of calls.
-equality::types TypeExpression -- The same of types.
+    -- Two expressions are equal where they are one with their spans set aside.
+equality::nodes ExpressionNode
+    -- Two expressions with their places are equal where they are one with their spans set aside.
+equality::calls FunctionCall
+    -- Two calls are equal where they are one with their spans set aside.
+equality::types TypeExpression
+    -- Two types are equal where they are one with their spans set aside.
 equality::declarations DeclarationKind Declaration
-    -- The same of declarations; of their kinds, which have no spans.
-equality::simple_statements plain_simple -- The same of the statements that hold no others.
+    -- Two declarations are equal where they are one with their spans set aside; two of their kinds,
+    which have no spans, where they are one.
+equality::simple_statements plain_simple
+    -- Two statements that hold no others are equal where they are one with their spans set aside.
 equality::statements blocks
-    -- The same of statements, of blocks and of the statements that hold them.
+    -- Two statements are equal where they are one with their spans set aside; so are two blocks.
 equality::branches branches
-    -- The same of the statements that branch, and of their clauses.
-equality::loops loops -- The same of loops.
+    -- Two statements that branch are equal where they are one with their spans set aside; so are
+    two of their clauses.
+equality::loops loops -- Two loops are equal where they are one with their spans set aside.
 equality::directives directives
-    -- Where two directives are equal: where they are one, the spans in their attributes set aside.
+    -- Two directives are equal where they are one with the spans in their attributes set aside.
 equality::global_declarations declarations
-    -- Where two declarations of modules are equal: where they are one with their spans set aside.
-equality::units TranslationUnit -- The same of modules.
+    -- Two declarations of modules are equal where they are one with their spans set aside.
+equality::units TranslationUnit
+    -- Two modules are equal where they are one with their spans set aside.
 simple_equality::declarations DeclarationKind Declaration
     -- Two declarations are equal where they are one with their spans set aside; two kinds where
     they are one.
@@ -130,7 +137,8 @@ def laws(nodes, specs):
     for kind in nodes.table.of_form("struct"):
         if nodes.homes[kind.name][0] == "attribute":
             name = specs.equal(kind.name).removeprefix("equal_")
-            yield Law("attribute_equality", name, (kind.name,), "", f"The same of `{kind.name}`.")
+            doc = f"Two values of `{kind.name}` are equal where they are one with their spans set aside."
+            yield Law("attribute_equality", name, (kind.name,), "", doc)
 
 
 def plain_clause(specs, name):

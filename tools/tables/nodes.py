@@ -263,7 +263,7 @@ def copied(table, kind):
     arms = [f"        {kind.name}::{name}(inner) => line.copy(inner)," for name in held]
     others = ["        _ => {}"] * (len(held) < len(kind.parts))
     return "\n".join([
-        f"/// What a node of `{kind.name}` holds, if that is a node without a span.",
+        f"/// Copies what a node of `{kind.name}` holds, if that is a node without a span.",
         f"pub fn copy_in_{snake(kind.name)}<R: Print + AllocGlobal>(",
         f"    line: &mut Line<'_, R>,", f"    node: &{kind.name},", ") {", "    match node {",
         *arms, *others, "    }", "}", ""]) if held else None

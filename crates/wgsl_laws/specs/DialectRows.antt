@@ -1,4 +1,4 @@
--- Rows of texts that are recognised alone: tokens, and the tree or the fault.
+-- Rows of texts of the dialect: tokens, and the tree or the fault.
 use Rattle.std.specs.Prelude.{List, [], ◌∷◌, Some, None, codes}
 use Rattle.grammar.specs.Tokens.{Token, Fault}
 use Rattle.wgsl_model.specs.Tokens.ClassTable.{SymAttr, SymBraceLeft, SymBraceRight, SymColon, SymComma, SymEqual, SymMinusMinus, SymParenLeft, SymParenRight, SymSemicolon, KwConst, KwDiagnostic, KwFn, KwVar, TemplateArgsStart, TemplateArgsEnd}

@@ -6,7 +6,8 @@ ghost use Rattle.wgsl_theory_reread.specs.CanonicalStatements.{statement_tokens}
 ghost use Rattle.wgsl_theory_reread.specs.CanonicalUnits.{canonical};
 ghost use Rattle.wgsl_theory_reread.specs.CanonicalRows as row;
 
-/// Trees of each kind, and the tokens that are written from them.
+/// The tokens that are written from each of these trees are those that are given with it; there are
+/// trees of each kind.
 pub fn rows()
     ensures template_call { expression_tokens row.template_call_tree [] ≡ row.template_call_tokens }
     ensures three_minuses { expression_tokens row.three_minuses_tree [] ≡ row.three_minuses_tokens }

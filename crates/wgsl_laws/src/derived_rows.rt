@@ -15,7 +15,8 @@ ghost use Rattle.wgsl_laws.specs.DirectivesRows.{last_comma_of_names_tokens, las
 ghost use Rattle.wgsl_laws.specs.UnitsRows.{empty_unit_tokens, empty_unit_tree, three_declarations_tokens, three_declarations_tree, directive_after_a_declaration_tokens, directive_after_a_declaration_fault, attribute_before_a_directive_tokens, attribute_before_a_directive_tree, attribute_before_the_first_declaration_tokens, attribute_before_the_first_declaration_tree, directive_with_an_attribute_after_a_declaration_tokens, directive_with_an_attribute_after_a_declaration_fault, bare_attribute_before_a_function_tokens, bare_attribute_before_a_function_fault, attribute_before_no_statement_tokens, attribute_before_no_statement_fault};
 ghost use Rattle.wgsl_laws.specs.DialectRows.{minus_minus_dialect_tokens, minus_minus_dialect_fault, reserved_word_dialect_tokens, reserved_word_dialect_fault, severity_dialect_tokens, severity_dialect_tree, template_dialect_tokens, template_dialect_tree, keyword_dialect_tokens, keyword_dialect_fault, attribute_dialect_tokens, attribute_dialect_fault};
 
-/// Expressions, literals and template lists.
+/// Each of these token lists of an expression, a literal or a template list derives the tree or has
+/// the fault that is given with it.
 pub fn expressions()
     ensures sum_to_the_left { Derives checking written expression
         sum_to_the_left_tree sum_to_the_left_tokens }
@@ -49,7 +50,8 @@ pub fn expressions()
         template_of_one_tree template_of_one_tokens }
 {}
 
-/// Statements.
+/// Each of these token lists of a statement derives the tree or has the fault that is given with
+/// it.
 pub fn statements()
     ensures for_header { Derives checking written statement for_header_tree for_header_tokens }
     ensures loop_and_continuing { Derives checking written statement
@@ -95,7 +97,8 @@ pub fn statements()
         attribute_before_a_wrong_template_tokens finished attribute_before_a_wrong_template_fault }
 {}
 
-/// Declarations.
+/// Each of these token lists of a declaration derives the tree or has the fault that is given with
+/// it.
 pub fn declarations()
     ensures struct_with_a_last_comma { Derives checking written global_declaration
         struct_with_a_last_comma_tree struct_with_a_last_comma_tokens }
@@ -135,7 +138,8 @@ pub fn declarations()
         function_without_an_end_tokens finished function_without_an_end_fault }
 {}
 
-/// Directives.
+/// Each of these token lists of a directive derives the tree or has the fault that is given with
+/// it.
 pub fn directives()
     ensures last_comma_of_names { Derives checking written global_directive
         last_comma_of_names_tree last_comma_of_names_tokens }
@@ -147,7 +151,7 @@ pub fn directives()
         reserved_word_as_a_severity_tokens finished reserved_word_as_a_severity_fault }
 {}
 
-/// Modules.
+/// Each of these token lists of a module derives the tree or has the fault that is given with it.
 pub fn units()
     ensures empty_unit { Derives checking written unit empty_unit_tree empty_unit_tokens }
     ensures three_declarations { Derives checking written unit
@@ -167,7 +171,8 @@ pub fn units()
         attribute_before_no_statement_tokens finished attribute_before_no_statement_fault }
 {}
 
-/// Texts that are recognised alone.
+/// Each of these token lists derives, by the rules of the dialect, the tree or has the fault that
+/// is given with it.
 pub fn dialect()
     ensures minus_minus_dialect { IsNamedSmall expression
         minus_minus_dialect_tokens finished minus_minus_dialect_fault }

@@ -52,7 +52,7 @@ pub fn formatted_line_ends()
 /// Outside block comments, the lines of a text formatted by any layout end with LF alone and with
 /// no white space before it, and no two empty ones follow one another. The text does not begin with
 /// a line break. Unless it is empty or ends in a block comment that is not closed, it ends with one
-/// line end. All this is said of the text after a byte order mark, before LF becomes CR LF.
+/// line break. All this is said of the text after a byte order mark, before LF becomes CR LF.
 pub fn formatted_lines()
     ensures line_breaks { (layout : Layout) (source : List ℕ) (ts : List Token)
         (read : IsTokenList source ts finished) →

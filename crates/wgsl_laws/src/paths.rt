@@ -49,7 +49,8 @@ pub fn origin_equality()
         → IsTrue (equal_origins a b) → hashed_origin a ≡ hashed_origin b }
 {}
 
-/// The same of paths.
+/// `==` of paths is an equivalence. Two are equal where they are one as plain data, and then hash
+/// alike.
 pub fn path_equality()
     ensures equivalence { IsEquivalence equal_paths }
     ensures equal { (a b : ModulePath) → IsTrue (equal_paths a b) ↔ (path_view a ≡ path_view b) }

@@ -27,7 +27,7 @@ pub fn lists_within_lists()
         Template total text ts rest ↔ Enclosed total (Template total) text ts rest }
 {}
 
-/// No token is empty, they are in order and in the text, and so does the invalid token that ends
+/// No token is empty, they are in order and in the text, and so is the invalid token that ends
 /// them.
 #[tactic(auto, using(crate::proofs::Hints::token_order))]
 pub fn tokens_in_order()

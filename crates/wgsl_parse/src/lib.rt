@@ -32,7 +32,7 @@ pub mod lexer {
 }
 
 /// What a node of a tree can do, and what makes a type of one's own a node: `NodeName` and
-/// `NodeAttributes`, in whose place `UnnamedNode` and `UnattributedNode` stand for a node without
+/// `NodeAttributes`, in whose place `UnnamedNode` and `UnattributedNode` are for a node without
 /// the one or the other, and `BareNode` for one without both. A node that has a span writes
 /// `SyntaxNode` itself, whose calls on a list of attributes are
 /// `has_attribute` and `retain_nodes`.

@@ -20,13 +20,13 @@ use wgsl_tree_expression::{Expression, ExpressionNode};
 use wgsl_tree_statement::{Statement, StatementNode};
 use wgsl_tree_unit::{GlobalDeclaration, GlobalDeclarationNode, GlobalDirective, TranslationUnit};
 
-/// What can be read from a text, whole and by itself.
+/// A tree that can be read from a text, whole and by itself.
 pub trait FromSource: Sized {
     // What is returned for a source.
     ghost reads: { List ℕ → Result Self Error → Type 0 };
 
-    /// What the text is, or what is wrong with it. The span of a node is left out: it is that of
-    /// all of its tokens.
+    /// Reads the whole text, or returns what is wrong with it. The span of a node is left out: it
+    /// is that of all of its tokens.
     fn from_str(alloc: Global, source: &str) -> Result<Self, Error>
         ensures { reads source.now result };
 }

@@ -12,10 +12,10 @@ use std::alloc::Global;
 use wgsl_error::Error;
 use wgsl_tree_unit::TranslationUnit;
 
-/// The module that a text is, or what is wrong with it: the checked fault that ends first, as a
+/// Reads a module, or returns what is wrong with the text: the checked fault that ends first, as a
 /// reserved word in place of a name or an attribute whose arguments do not fit, if it ends before
-/// the first token that can't are where it is; else that token; else the text that is no
-/// token; else that the text ends too early.
+/// the first token that can't be where it is; else that token; else the text that is not a token;
+/// else that the text ends too early.
 pub fn parse_str(alloc: Global, source: &str) -> Result<TranslationUnit, Error>
     ensures accepted { IfOk result (λ unit. IsUnit (chars source.now) (unit_view unit)) }
     ensures refused { IfErr result (λ e.
@@ -25,9 +25,10 @@ pub fn parse_str(alloc: Global, source: &str) -> Result<TranslationUnit, Error>
     parse_within(alloc, source, usize::MAX)
 }
 
-/// `parse_str` on a stack that grows with a depth: where statements and expressions nest deeper
-/// than a number of levels, the error is of the kind `OutOfMemory`. Each statement inside another,
-/// each expression inside another and each operator before an operand is a level.
+/// Reads a module as `parse_str` does, on a stack that grows with a depth: where statements and
+/// expressions nest deeper than a number of levels, the error is of the kind `OutOfMemory`. Each
+/// statement inside another, each expression inside another and each operator before an operand is
+/// a level.
 pub fn parse_within(alloc: Global, source: &str, depth: usize) -> Result<TranslationUnit, Error>
     ensures accepted { IfOk result (λ unit. IsUnit (chars source.now) (unit_view unit)) }
     ensures refused { IfErr result (λ e.

@@ -18,17 +18,18 @@ use wgsl_tree_expression::{Expression, ExpressionNode, LiteralExpression};
 use wgsl_tree_statement::{Statement, StatementNode};
 use wgsl_tree_unit::{GlobalDeclaration, GlobalDeclarationNode, GlobalDirective, TranslationUnit};
 
-/// Reads a module from all tokens of an iterator. It keeps nothing between calls.
+/// A parser that reads a module from all tokens of an iterator. It keeps nothing between calls.
 #[derive(Default, Drop)]
 pub struct TranslationUnitParser;
 
 impl TranslationUnitParser {
+    /// Returns a parser of modules.
     pub fn new() -> Self {
         TranslationUnitParser
     }
 
-    /// What the tokens are, or what is wrong with them. After its first error the iterator is
-    /// asked for nothing more.
+    /// Reads the module that the tokens are, or returns what is wrong with them. After its first
+    /// error the iterator is asked for nothing more.
     pub fn parse<T: TokenIterator>(
         &self,
         alloc: Global,
@@ -41,17 +42,18 @@ impl TranslationUnitParser {
     }
 }
 
-/// Reads a directive from all tokens of an iterator. It keeps nothing between calls.
+/// A parser that reads a directive from all tokens of an iterator. It keeps nothing between calls.
 #[derive(Default, Drop)]
 pub struct GlobalDirectiveParser;
 
 impl GlobalDirectiveParser {
+    /// Returns a parser of directives.
     pub fn new() -> Self {
         GlobalDirectiveParser
     }
 
-    /// What the tokens are, or what is wrong with them. After its first error the iterator is
-    /// asked for nothing more.
+    /// Reads the directive that the tokens are, or returns what is wrong with them. After its first
+    /// error the iterator is asked for nothing more.
     pub fn parse<T: TokenIterator>(
         &self,
         alloc: Global,
@@ -65,17 +67,19 @@ impl GlobalDirectiveParser {
     }
 }
 
-/// Reads a declaration from all tokens of an iterator. It keeps nothing between calls.
+/// A parser that reads a declaration from all tokens of an iterator. It keeps nothing between
+/// calls.
 #[derive(Default, Drop)]
 pub struct GlobalDeclParser;
 
 impl GlobalDeclParser {
+    /// Returns a parser of declarations.
     pub fn new() -> Self {
         GlobalDeclParser
     }
 
-    /// What the tokens are, or what is wrong with them. After its first error the iterator is
-    /// asked for nothing more.
+    /// Reads the declaration that the tokens are, or returns what is wrong with them. After its
+    /// first error the iterator is asked for nothing more.
     #[tactic(auto, using(crate::proofs::Given::refused_alike))]
     pub fn parse<T: TokenIterator>(
         &self,
@@ -90,17 +94,18 @@ impl GlobalDeclParser {
     }
 }
 
-/// Reads a statement from all tokens of an iterator. It keeps nothing between calls.
+/// A parser that reads a statement from all tokens of an iterator. It keeps nothing between calls.
 #[derive(Default, Drop)]
 pub struct StatementParser;
 
 impl StatementParser {
+    /// Returns a parser of statements.
     pub fn new() -> Self {
         StatementParser
     }
 
-    /// What the tokens are, or what is wrong with them. After its first error the iterator is
-    /// asked for nothing more.
+    /// Reads the statement that the tokens are, or returns what is wrong with them. After its first
+    /// error the iterator is asked for nothing more.
     #[tactic(auto, using(crate::proofs::Given::refused_alike))]
     pub fn parse<T: TokenIterator>(&self, alloc: Global, tokens: T) -> Result<Statement, Error>
         ensures { IsParsed statement (λ s found. (place : Span) ×
@@ -111,17 +116,19 @@ impl StatementParser {
     }
 }
 
-/// Reads an expression from all tokens of an iterator. It keeps nothing between calls.
+/// A parser that reads an expression from all tokens of an iterator. It keeps nothing between
+/// calls.
 #[derive(Default, Drop)]
 pub struct ExpressionParser;
 
 impl ExpressionParser {
+    /// Returns a parser of expressions.
     pub fn new() -> Self {
         ExpressionParser
     }
 
-    /// What the tokens are, or what is wrong with them. After its first error the iterator is
-    /// asked for nothing more.
+    /// Reads the expression that the tokens are, or returns what is wrong with them. After its
+    /// first error the iterator is asked for nothing more.
     #[tactic(auto, using(crate::proofs::Given::refused_alike))]
     pub fn parse<T: TokenIterator>(&self, alloc: Global, tokens: T) -> Result<Expression, Error>
         ensures { IsParsed expression (λ e found. (s : Span) × Derived expression (expression_node
@@ -131,17 +138,18 @@ impl ExpressionParser {
     }
 }
 
-/// Reads a literal from all tokens of an iterator. It keeps nothing between calls.
+/// A parser that reads a literal from all tokens of an iterator. It keeps nothing between calls.
 #[derive(Default, Drop)]
 pub struct LiteralParser;
 
 impl LiteralParser {
+    /// Returns a parser of literals.
     pub fn new() -> Self {
         LiteralParser
     }
 
-    /// What the tokens are, or what is wrong with them. After its first error the iterator is
-    /// asked for nothing more.
+    /// Reads the literal that the tokens are, or returns what is wrong with them. After its first
+    /// error the iterator is asked for nothing more.
     pub fn parse<T: TokenIterator>(
         &self,
         alloc: Global,

@@ -60,17 +60,19 @@ fn template_list_of(alloc: Global, found: Collected) -> Result<Span, Error>
     Ok(span)
 }
 
-/// Reads a template list from all tokens of an iterator. It keeps nothing between calls.
+/// A parser that reads a template list from all tokens of an iterator. It keeps nothing between
+/// calls.
 #[derive(Default, Drop)]
 pub struct TryTemplateListParser;
 
 impl TryTemplateListParser {
+    /// Returns a parser of template lists.
     pub fn new() -> Self {
         TryTemplateListParser
     }
 
-    /// The span of the template list that the tokens are, from its start to its end, or what is
-    /// wrong with them. After its first error the iterator is asked for nothing more.
+    /// Returns the span of the template list that the tokens are, from its start to its end, or
+    /// what is wrong with them. After its first error the iterator is asked for nothing more.
     pub fn parse<T: TokenIterator>(&self, alloc: Global, tokens: T) -> Result<Span, Error>
         ensures { IsParsed template_list (λ span found. (es : List plain.ExpressionNode) ×
             Derived template_list es found × IsSpanOf span (tokens_view found))
@@ -80,8 +82,8 @@ impl TryTemplateListParser {
     }
 }
 
-/// Whether all tokens of an iterator are a template list: Ok where they are, or what is wrong with
-/// them.
+/// Checks whether all tokens of an iterator are a template list: returns `Ok` where they are, else
+/// what is wrong with them.
 pub fn recognize_template_list<T: TokenIterator>(alloc: Global, lexer: T) -> Result<(), Error>
     ensures { IsParsed template_list (λ _ found. (es : List plain.ExpressionNode) ×
         Derived template_list es found) (T.into_iter_gives lexer) T.IntoIter.next_gives result }

@@ -34,7 +34,7 @@ neither : (b x : Bool) → cond b true x ≡ false → (b ≡ false) × (x ≡ f
 neither true x h = absurd cc
 neither false x h = (refl, h)
 
--- a token that is none of some classes is not one of them
+-- a token of no class among some is not of one of them
 none_alike : (c d : ℕ) (s : State) → eqb c d ≡ true → is_at d s ≡ false → is_at c s ≡ false
 none_alike c d s h k = ap (λ x. is_at x s) (eqb-true c d h) ∙ k
 

@@ -1,4 +1,4 @@
--- What a check finds wrong, its fault tells.
+-- What a check finds wrong, its fault says.
 use Rattle.std.proofs.Common.{◌≡◌, ℕ, List, Err}
 use Rattle.grammar.specs.Tokens as plain
 use Rattle.grammar.specs.States.{Stop.faulty}

@@ -22,7 +22,7 @@ use Rattle.wgsl_tree_expression.specs.View.{ident_name}
 use Rattle.wgsl_read_attribute.specs.Known.{checked_attribute}
 use Rattle.wgsl_tree_words.specs.View.{severity_view, access_mode_view, address_space_view, interpolation_type_view, interpolation_sampling_view, builtin_value_view}
 
--- a word that is none of a table's
+-- a word that is not in a table
 abbrev pub Differs : {A : Type 0} → List ℕ → WordTable A → Type 0
 Differs word [] = Unit {0}
 Differs word (entry ∷ entries) = (word ≡ entry.0 → ⊥) × Differs word entries
@@ -31,13 +31,13 @@ passed : {A : Type 0} (b : Bool) (x : A) (y : Option A) → (b ≡ true → ⊥)
 passed true x y n e = absurd (n refl)
 passed false x y n e = e
 
--- it stands for nothing
+-- it has no value
 pub absent : {A : Type 0} (word : List ℕ) (words : WordTable A) → Differs word words → look_up words word ≡ None
 absent word [] d = refl
 absent word (entry ∷ entries) d = passed (bytes_eq entry.0 word) entry.1 (look_up entries word)
     (λ e. d.0 (sym ((bytes_eq-Decides entry.0 word).0 e))) (absent word entries d.1)
 
--- so a name that is none of the attributes' keeps its arguments
+-- so a name that is not an attribute's keeps its arguments
 pub custom_is : (name : List ℕ) (arguments : Arguments) → Differs name attribute_names
     → checked_attribute name arguments ≡ right (custom (record { name = name; arguments = arguments }))
 unfolding checked_attribute
@@ -54,12 +54,12 @@ differs : {A : Type 0} (text : A → List ℕ) (words : WordTable A) → OwnText
 differs text [] own word n = tt
 differs text (entry ∷ entries) own word n = (λ e. n entry.1 (e ∙ cc), differs text entries (cc) word n)
 
--- so a word that is none of the texts stands for no value
+-- so a word that is not one of the texts has no value
 pub unnamed : {A : Type 0} (text : A → List ℕ) (words : WordTable A) → OwnTexts text words
     → (word : List ℕ) → ((a : A) → word ≡ text a → ⊥) → look_up words word ≡ None
 unnamed text words own word n = absent word words (differs text words own word n)
 
--- the value that a name without a template stands for is the one that is found
+-- the value that a name without a template has is the one that is found
 named : {A B E : Type 0} (text : B → List ℕ) (words : WordTable B) (view : A → B)
     → OwnTexts text words → ((b : B) → look_up words (text b) ≡ Some b)
     → (e : ExpressionNode) (ident : Ident) → option_map ident_name (Some ident) ≡ untemplated_name e

@@ -29,7 +29,7 @@ impl From<AllocError> for Refusal {
     }
 }
 
-/// The items of a list that has one to three.
+/// Returns the items of a list that has one to three, else `None`.
 pub fn one_to_three<T: Drop>(items: Vec<T>) -> Option<(T, Option<T>, Option<T>)>
     ensures { result ≡ one_to_three items.items }
 {

@@ -26,7 +26,7 @@ use wgsl_span::{Span, Spanned};
 use wgsl_tree_attribute::{Attribute, AttributeNode, Attributes};
 use wgsl_tree_expression::ExpressionNode;
 
-/// Attributes, none too.
+/// Reads attributes, none too.
 pub fn parse_attributes(alloc: Global, tokens: &mut Cursor) -> Result<Attributes, Fault>
     ensures { ParsesNullable
         (λ attributes. attributes_view attributes.items) result tokens.old tokens.new

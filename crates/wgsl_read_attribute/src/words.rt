@@ -62,6 +62,7 @@ pub(crate) fn word_severity(expression: ExpressionNode) -> Option<DiagnosticSeve
     DiagnosticSeverity::from_str(name_alone(expression)?.name()).ok()
 }
 
+/// Returns the access mode whose name an expression is, without a template.
 pub fn word_access_mode(expression: ExpressionNode) -> Option<AccessMode>
     ensures { option_map access_mode_view result
         ≡ untemplated_word access_modes (expression_node_view expression) }
@@ -69,6 +70,7 @@ pub fn word_access_mode(expression: ExpressionNode) -> Option<AccessMode>
     AccessMode::from_str(name_alone(expression)?.name()).ok()
 }
 
+/// Returns the address space whose name an expression is, without a template.
 pub fn word_address_space(expression: ExpressionNode) -> Option<AddressSpace>
     ensures { option_map address_space_view result
         ≡ untemplated_word address_spaces (expression_node_view expression) }

@@ -72,7 +72,7 @@ next_is p = by_test (nat_lt p last_place)
     by_test true = (omega arith, omega arith)
     by_test false = (omega arith, omega arith)
 
--- a token that can't are where it is
+-- a token that can't be where it is
 unexpected_within : (source : List ℕ) (ts : List Token) (e : Ending) (p us : List Token) (t : Token)
     → IsTokenList source ts e → ts ≡ p ++ (t ∷ us) → Within (span_of_token t) (width source)
 unexpected_within source ts e p us t l h = token_within (width source) p us t

@@ -6,7 +6,7 @@ use Rattle.wgsl_read_cursor.specs.declared.fault.Fault.{Fault}
 use Rattle.wgsl_read_cursor.specs.declared.fault.Fault.TheVariants as fault
 use Rattle.wgsl_read_cursor.specs.Reading.{refusal_stop, Tells, Fails}
 
--- what a fault tells is why reading stops
+-- what a fault says is why reading stops
 pub told : {Y : Type 0} (x : Fault) (s : Stop) (read : Read Y) → Tells x s → read ≡ stop s → Fails x read
 told (fault.Refused refusal) s read t r = r ∙ ap stop (sym t)
 told fault.OutOfMemory s read t r = tt

@@ -40,7 +40,7 @@ abbrev pub stop_of : Fault → Stop
 stop_of (fault.Refused refusal) = refusal_stop refusal.value
 stop_of fault.OutOfMemory = never
 
--- a fault tells why reading stopped, unless memory ran out
+-- a fault says why reading stopped, unless memory ran out
 abbrev pub Tells : Fault → Stop → Type 0
 Tells fault.OutOfMemory s = Unit {0}
 Tells e s = stop_of e ≡ s

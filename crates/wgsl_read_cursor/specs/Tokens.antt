@@ -16,6 +16,6 @@ abbrev pub first_class : List Token → Option ℕ
 first_class [] = None
 first_class (t ∷ ts) = Some t.class
 
--- the class of the token that is next, if one does
+-- the class of the token that is next, if there is one
 unfoldable pub next_class : Tokens → Option ℕ
 next_class tokens = first_class (rest_of tokens)

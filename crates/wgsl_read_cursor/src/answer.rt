@@ -13,8 +13,8 @@ use std::alloc::Global;
 use wgsl_error::Error;
 
 impl TokenSource<'_> {
-    /// The value that was read, where no token is left after it and no error ended the tokens; else
-    /// what is wrong.
+    /// Returns the value that was read, where no token is left after it and no error ended the
+    /// tokens; else what is wrong.
     pub fn answer<T: Drop>(
         self,
         alloc: Global,

@@ -25,7 +25,7 @@ pub struct Cursor<'s> {
     /// For what is refused.
     alloc: Global,
     tokens: Tokens<'s>,
-    /// Which of them is next, if one does.
+    /// Which of them is next, if there is one.
     next: Option<TokenKind>,
     end: usize,
     /// How many levels deeper what is read may nest.
@@ -45,7 +45,7 @@ impl<'s> Cursor<'s> {
     ghost use Rattle.wgsl_read_cursor.specs.Reading.{state, token_at, span_back, Gives, Fails, Parses};
     ghost use Rattle.wgsl_read_cursor.specs.Words.{word_text, attribute_name_at};
 
-    /// Tokens that were given.
+    /// Returns a cursor at the first of the tokens that are given.
     pub fn new(tokens: VecDeque<PlacedToken>) -> Cursor<'s>
         ensures { state result ≡ record { end = 0; rest = map placed_view tokens.items } }
     {
@@ -53,7 +53,8 @@ impl<'s> Cursor<'s> {
         Cursor::before(alloc, Tokens::Given(tokens), usize::MAX)
     }
 
-    /// The tokens of a text, which may nest a number of levels deep.
+    /// Returns a cursor at the first of the tokens of a text, which may nest a number of levels
+    /// deep.
     pub fn of_text(alloc: Global, tokens: TextTokens<'s>, depth: usize) -> Cursor<'s>
         ensures { state result ≡ record { end = 0; rest = tokens_left tokens.entry } }
     {
@@ -97,14 +98,14 @@ impl<'s> Cursor<'s> {
         self.depth = self.depth.saturating_add(1);
     }
 
-    /// Whether no token is left.
+    /// Returns whether no token is left.
     pub fn is_empty(&self) -> bool
         ensures { IsTrue result ↔ ((state self.now).rest ≡ []) }
     {
         self.next.is_none()
     }
 
-    /// Which token is next, if one does.
+    /// Returns the kind of the next token, if there is one.
     #[inline]
     pub fn kind(&self) -> Option<TokenKind>
         ensures { MatchOption result ((state self.now).rest ≡ [])
@@ -113,7 +114,7 @@ impl<'s> Cursor<'s> {
         self.next
     }
 
-    /// Whether the next token is of a kind.
+    /// Returns whether the next token is of a kind.
     #[inline]
     pub fn is_at(&self, kind: TokenKind) -> bool
         ensures { result ≡ is_at (class_of_kind kind) (state self.now) }
@@ -124,7 +125,7 @@ impl<'s> Cursor<'s> {
         }
     }
 
-    /// Where the next token starts.
+    /// Returns where the next token starts.
     #[inline(never)]
     pub fn start(&self) -> usize
         ensures { result ≡ next_start (state self.now) }
@@ -135,7 +136,7 @@ impl<'s> Cursor<'s> {
         }
     }
 
-    /// From a place to the end of the last token that was taken.
+    /// Returns the span from a place to the end of the last token that was taken.
     pub fn span_from(&self, start: usize) -> Span
         ensures { result ≡ span_back start (state self.now) }
     {
@@ -203,8 +204,7 @@ impl<'s> Cursor<'s> {
         Err(self.refuse(Expected::One(kind)))
     }
 
-    /// Takes the next token, which can't are here, as the fault; or the fault is that there is
-    /// none.
+    /// Takes the next token, which can't be here, as the fault; or the fault is that there is none.
     pub fn refuse(&mut self, expected: Expected) -> Fault
         ensures { Fails result (refused {A = Token} (state self.old)) }
     {

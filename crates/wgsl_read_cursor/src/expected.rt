@@ -13,7 +13,7 @@ pub enum Expected {
 }
 
 impl Expected {
-    /// What a literal is.
+    /// The tokens that are a literal.
     pub const LITERAL: Expected = Expected::OneOf(&[
         TokenKind::KwFalse,
         TokenKind::KwTrue,
@@ -25,7 +25,7 @@ impl Expected {
         TokenKind::F16,
     ]);
 
-    /// What an expression begins with.
+    /// The tokens that an expression begins with.
     pub const EXPRESSION: Expected = Expected::OneOf(&[
         TokenKind::SymAnd,
         TokenKind::SymBang,
@@ -44,10 +44,10 @@ impl Expected {
         TokenKind::F16,
     ]);
 
-    /// What the name of an attribute is.
+    /// The tokens that are the name of an attribute.
     pub const ATTRIBUTE_NAME: Expected = Expected::OneOf(TokenKind::WORDS);
 
-    /// What a directive or a declaration begins with.
+    /// The tokens that a directive or a declaration begins with.
     pub const DIRECTIVE_OR_DECLARATION: Expected = Expected::OneOf(&[
         TokenKind::SymAttr,
         TokenKind::SymSemicolon,
@@ -63,7 +63,7 @@ impl Expected {
         TokenKind::KwVar,
     ]);
 
-    /// What a declaration begins with.
+    /// The tokens that a declaration begins with.
     pub const DECLARATION: Expected = Expected::OneOf(&[
         TokenKind::SymAttr,
         TokenKind::SymSemicolon,
@@ -76,7 +76,8 @@ impl Expected {
         TokenKind::KwVar,
     ]);
 
-    /// Their texts, without that of the token that was refused, if there was one.
+    /// Returns the texts of these tokens, without that of the token that was refused, if there was
+    /// one.
     pub fn texts(
         self,
         alloc: Global,

@@ -9,7 +9,7 @@ use std::alloc::{AllocError, AllocFailed, Global};
 use wgsl_error::Error;
 use wgsl_lex_token::placed::PlacedToken;
 
-/// What was refused, and what could be in the place of a token that was.
+/// A token or an end that was refused, with what could be in its place, or what a check found.
 #[derive(Drop)]
 pub enum Refusal {
     UnexpectedToken(PlacedToken, Expected),
@@ -19,7 +19,8 @@ pub enum Refusal {
     Checked(Error),
 }
 
-/// Why tokens could not be read. A refusal is boxed, so that a result with a fault is hardly larger than its value.
+/// The reason why tokens could not be read. A refusal is boxed, so that a result with a fault is
+/// hardly larger than its value.
 #[derive(Drop)]
 pub enum Fault {
     Refused(Box<Refusal>),
@@ -32,7 +33,7 @@ impl Fault {
     ghost use Rattle.wgsl_lex_token.specs.Placed.{placed_view};
     ghost use Rattle.wgsl_read_cursor.specs.Reading.{refusal_stop, Tells};
 
-    /// The fault of a token that can't are where it does.
+    /// Returns the fault of a token that can't be where it is.
     #[inline(never)]
     pub fn unexpected_token(alloc: Global, token: PlacedToken, expected: Expected) -> Fault
         ensures { Tells result (unexpected (placed_view token)) }
@@ -48,7 +49,7 @@ impl Fault {
         Fault::refused(alloc, Refusal::UnexpectedEnd { place, expected })
     }
 
-    /// The fault of what a check of the grammar found.
+    /// Returns the fault of what a check of the grammar found.
     #[inline(never)]
     pub fn checked(alloc: Global, error: Error) -> Fault
         ensures { Tells result (faulty (fault_view error)) }

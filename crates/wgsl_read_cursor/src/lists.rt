@@ -5,11 +5,11 @@ ghost use Rattle.std.specs.Prelude.{◌≡◌, [], ◌∷◌, ◌++◌, OnOk};
 
 use std::alloc::{AllocError, Global};
 
-/// How many items the room is for that a list is given at first.
+/// How many items the buffer is for that a list is given at first.
 const FEW: usize = 2;
 
-/// Adds an item to a list. A list without room is given room for a few items at first: most lists of a
-/// shader, arguments and statements of a block among them, are no longer.
+/// Adds an item to a list. A list without a buffer is given one for a few items at first: most
+/// lists of a shader, arguments and statements of a block among them, are no longer.
 pub fn add<T: Drop>(list: &mut Vec<T, Global>, item: T) -> Result<(), AllocError>
     ensures { OnOk result (list.new.items ≡ list.old.items ++ item ∷ []) }
 {

@@ -11,7 +11,7 @@ use wgsl_error::{Error, ErrorKind};
 use wgsl_lex_token::placed::PlacedToken;
 use wgsl_span::Span;
 
-/// The error of a token that can't are where it is.
+/// The error of a token that can't be where it is.
 pub(crate) fn unexpected_token(
     alloc: Global,
     token: PlacedToken,

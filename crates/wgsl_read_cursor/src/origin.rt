@@ -1,4 +1,4 @@
-//! Where tokens are from, which tells how they end.
+//! Where tokens are from, which says how they end.
 
 ghost use Rattle.std.specs.Prelude.{◌≡◌, IfOk, List};
 ghost use Rattle.wgsl_lexer.specs.Placed.{ending_view};
@@ -13,7 +13,7 @@ use wgsl_lex_token::placed::PlacedToken;
 use wgsl_lexer::invalid_after;
 use wgsl_span::Span;
 
-/// Where tokens are from.
+/// The text or the iterator that tokens are from.
 #[derive(Drop)]
 pub enum Origin<'s> {
     Text(&'s str),

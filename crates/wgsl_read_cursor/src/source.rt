@@ -31,7 +31,7 @@ impl<'s> TokenSource<'s> {
     ghost use Rattle.wgsl_lexer.specs.TextTokens.{tokens_left, ending_left};
     ghost use Rattle.wgsl_read_cursor.specs.Origins.{IsSourceOf};
 
-    /// The tokens of a text, which may nest a number of levels deep.
+    /// Returns the tokens of a text, which may nest a number of levels deep.
     pub fn of_text(
         alloc: Global,
         text: &'s str,
@@ -44,7 +44,7 @@ impl<'s> TokenSource<'s> {
         Ok(TokenSource::of_tokens(alloc, text, tokens, depth))
     }
 
-    /// The tokens of a text that are found already, which may nest a number of levels deep.
+    /// Returns the tokens of a text that are found already, which may nest a number of levels deep.
     pub fn of_tokens(
         alloc: Global,
         text: &'s str,
@@ -61,8 +61,8 @@ impl<'s> TokenSource<'s> {
         }
     }
 
-    /// The tokens of an iterator. Where an allocation failed for what follows them a `(` is after,
-    /// so that an attribute at the end is not told to lack its arguments.
+    /// Returns the tokens of an iterator. Where an allocation failed for what follows them a `(` is
+    /// after, so that an attribute at the end is not reported to lack its arguments.
     pub fn new(found: Collected) -> Result<TokenSource<'s>, AllocError>
         ensures { IfOk result (λ source.
             IsSourceOf source (tokens_view found) (ending_view found.error)) }
@@ -78,7 +78,7 @@ impl<'s> TokenSource<'s> {
     }
 }
 
-/// Whether an allocation failed for a token.
+/// Returns whether an allocation failed for a token.
 pub fn is_out_of_memory(error: &Option<(usize, ParseError, usize)>) -> bool
     ensures { result ≡ wants_memory (ending_view error.now) }
 {

@@ -20,7 +20,7 @@ pub(crate) enum Tokens<'s> {
 }
 
 impl<'s> Tokens<'s> {
-    /// Which token is next, if one does.
+    /// Which token is next, if there is one.
     #[inline(always)]
     pub(crate) fn kind(&self) -> Option<TokenKind>
         ensures { MatchOption result (rest_of self.now ≡ []) (StartWithKind (rest_of self.now)) }
@@ -42,7 +42,7 @@ impl<'s> Tokens<'s> {
         }
     }
 
-    /// The name that is next in a text, if one does. One that was given is moved: see `take`.
+    /// The name that is next in a text, if there is one. One that was given is moved: see `take`.
     #[inline(always)]
     pub(crate) fn name(&self) -> Option<&'s str>
         ensures { IfSome result (λ name. BeginWithName (rest_of self.now) name.now) }

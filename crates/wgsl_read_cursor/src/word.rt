@@ -13,6 +13,7 @@ pub enum Word {
 }
 
 impl Word {
+    /// Returns the text.
     pub fn as_str(&self) -> &str
         ensures { result.now ≡ word_text self.now }
     {
@@ -22,7 +23,7 @@ impl Word {
         }
     }
 
-    /// The text, which is copied for a keyword alone.
+    /// Returns the text as a string, which is copied for a keyword alone.
     pub fn into_string(self, alloc: Global) -> Result<String, AllocError>
         ensures { IfOk result (λ text. string_bytes text ≡ word_text self) }
     {

@@ -33,8 +33,8 @@ const DIRECTIVE: Expected = Expected::OneOf(&[
     TokenKind::KwRequires,
 ]);
 
-/// A directive with its attributes and its `;` (WGSL, "Directives"). A name in the place of a
-/// severity that is none is a checked fault where that name is.
+/// Reads a directive with its attributes and its `;` (WGSL, "Directives"). A name in the place of a
+/// severity that is not one is a checked fault where that name is.
 pub fn parse_global_directive(alloc: Global, tokens: &mut Cursor) -> Result<GlobalDirective, Fault>
     ensures { Parses global_directive_view result tokens.old tokens.new
         (reader (of global_directive)) }
@@ -43,7 +43,7 @@ pub fn parse_global_directive(alloc: Global, tokens: &mut Cursor) -> Result<Glob
     parse_directive_part(alloc, tokens, attributes)
 }
 
-/// A directive after its attributes.
+/// Reads a directive after its attributes.
 pub fn parse_directive_part(
     alloc: Global,
     tokens: &mut Cursor,

@@ -21,7 +21,7 @@ use wgsl_span::Spanned;
 use wgsl_tree_attribute::Attributes;
 use wgsl_tree_unit::{GlobalDeclaration, Struct, StructMember, StructMemberNode};
 
-/// A `struct` after its attributes.
+/// Reads a `struct` after its attributes.
 pub fn parse_struct_part(
     alloc: Global,
     tokens: &mut Cursor,

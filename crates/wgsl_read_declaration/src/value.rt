@@ -18,7 +18,7 @@ use wgsl_tree_attribute::Attributes;
 use wgsl_tree_simple::{Declaration, DeclarationKind};
 use wgsl_tree_unit::{GlobalDeclaration, TypeAlias};
 
-/// A `var` after its attributes.
+/// Reads a `var` after its attributes.
 pub fn parse_var_part(
     alloc: Global,
     tokens: &mut Cursor,
@@ -41,7 +41,7 @@ pub fn parse_var_part(
     }))
 }
 
-/// An `override` after its attributes.
+/// Reads an `override` after its attributes.
 pub fn parse_override_part(
     alloc: Global,
     tokens: &mut Cursor,
@@ -64,7 +64,7 @@ pub fn parse_override_part(
     }))
 }
 
-/// A `const` after its attributes.
+/// Reads a `const` after its attributes.
 pub fn parse_const_part(
     alloc: Global,
     tokens: &mut Cursor,
@@ -88,7 +88,7 @@ pub fn parse_const_part(
     }))
 }
 
-/// An `alias` after its attributes.
+/// Reads an `alias` after its attributes.
 pub fn parse_alias_part(
     alloc: Global,
     tokens: &mut Cursor,

@@ -1,6 +1,6 @@
 //! The languages that are recognised.
 
-/// Which language is recognised. Nothing is checked in either.
+/// A language whose texts are recognised. Nothing is checked in either.
 #[derive(Clone, Copy)]
 pub enum Dialect {
     /// The language that is parsed: a reserved word is a name.

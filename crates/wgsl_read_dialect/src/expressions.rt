@@ -4,14 +4,17 @@ use crate::rules::Symbol;
 use crate::step::Step::{self, Choice, Repeat, Rule, Token};
 use wgsl_lex_token::kind::TokenKind;
 
+/// The tokens with which a product goes on.
 pub const CONTINUES_MULTIPLICATIVE_EXPRESSION: &[TokenKind] = &[
     TokenKind::SymStar,
     TokenKind::SymForwardSlash,
     TokenKind::SymModulo,
 ];
 
+/// The steps of a name.
 pub const IDENT: &[Step] = &[Token(&[TokenKind::Ident])];
 
+/// The steps of a type, or an identifier with the arguments of its template.
 pub const TYPE_SPECIFIER: &[Step] = &[
     Rule(Symbol::Ident),
     Choice(
@@ -21,16 +24,19 @@ pub const TYPE_SPECIFIER: &[Step] = &[
     ),
 ];
 
+/// The steps of a template list.
 pub const TEMPLATE_LIST: &[Step] = &[
     Token(&[TokenKind::TemplateArgsStart]),
     Rule(Symbol::TemplateItems),
 ];
 
+/// The steps of arguments in parentheses.
 pub const ARGUMENTS: &[Step] = &[
     Token(&[TokenKind::SymParenLeft]),
     Rule(Symbol::ArgumentRest),
 ];
 
+/// The steps of a literal.
 pub const LITERAL: &[Step] = &[Token(&[
     TokenKind::KwTrue,
     TokenKind::KwFalse,
@@ -42,6 +48,7 @@ pub const LITERAL: &[Step] = &[Token(&[
     TokenKind::F16,
 ])];
 
+/// The steps of a primary expression.
 pub const PRIMARY_EXPRESSION: &[Step] = &[Choice(
     &[TokenKind::Ident, TokenKind::ReservedWord],
     &[
@@ -68,11 +75,13 @@ pub const PRIMARY_EXPRESSION: &[Step] = &[Choice(
     )],
 )];
 
+/// The steps of a primary expression and its components.
 pub const SINGULAR_EXPRESSION: &[Step] = &[
     Rule(Symbol::PrimaryExpression),
     Rule(Symbol::Components),
 ];
 
+/// The steps of a component.
 pub const COMPONENT: &[Step] = &[Choice(
     &[TokenKind::SymBracketLeft],
     &[
@@ -83,6 +92,7 @@ pub const COMPONENT: &[Step] = &[Choice(
     &[Token(&[TokenKind::SymPeriod]), Rule(Symbol::Ident)],
 )];
 
+/// The steps of an operand with the operators before it.
 pub const UNARY_EXPRESSION: &[Step] = &[Choice(
     &[
         TokenKind::SymParenLeft,
@@ -120,6 +130,7 @@ pub const UNARY_EXPRESSION: &[Step] = &[Choice(
     ],
 )];
 
+/// The steps of a product.
 pub const MULTIPLICATIVE_EXPRESSION: &[Step] = &[
     Rule(Symbol::UnaryExpression),
     Repeat(
@@ -139,6 +150,7 @@ pub const MULTIPLICATIVE_EXPRESSION: &[Step] = &[
     ),
 ];
 
+/// The steps of a product of the negation that the second minus of `--` begins.
 pub const NEGATED_EXPRESSION: &[Step] = &[
     Token(&[TokenKind::SymMinusMinus]),
     Rule(Symbol::UnaryExpression),
@@ -159,15 +171,19 @@ pub const NEGATED_EXPRESSION: &[Step] = &[
     ),
 ];
 
+/// The steps of a shift or a sum.
 pub const SHIFT_EXPRESSION: &[Step] = &[Rule(Symbol::UnaryExpression), Rule(Symbol::SumRest)];
 
+/// The steps of a comparison, a shift or a sum.
 pub const RELATIONAL_EXPRESSION: &[Step] = &[
     Rule(Symbol::ShiftExpression),
     Rule(Symbol::RelationRest),
 ];
 
+/// The steps of an expression.
 pub const EXPRESSION: &[Step] = &[Rule(Symbol::UnaryExpression), Rule(Symbol::ExpressionRest)];
 
+/// The steps of a left side.
 pub const LHS_EXPRESSION: &[Step] = &[Choice(
     &[TokenKind::Ident, TokenKind::ReservedWord],
     &[Rule(Symbol::Ident), Rule(Symbol::Components)],
@@ -178,37 +194,44 @@ pub const LHS_EXPRESSION: &[Step] = &[Choice(
     )],
 )];
 
+/// The steps of the arguments of a template list, one at least, and its end.
 pub const TEMPLATE_ITEMS: &[Step] = &[Rule(Symbol::Expression), Rule(Symbol::TemplateMore)];
 
+/// The steps of what follows a comma in a template list: further arguments, or none, and its end.
 pub const TEMPLATE_REST: &[Step] = &[Choice(
     &[TokenKind::TemplateArgsEnd],
     &[Token(&[TokenKind::TemplateArgsEnd])],
     &[Rule(Symbol::Expression), Rule(Symbol::TemplateMore)],
 )];
 
+/// The steps of what follows an argument in a template list, up to its end.
 pub const TEMPLATE_MORE: &[Step] = &[Choice(
     &[TokenKind::SymComma],
     &[Token(&[TokenKind::SymComma]), Rule(Symbol::TemplateRest)],
     &[Token(&[TokenKind::TemplateArgsEnd])],
 )];
 
+/// The steps of what follows the `(` of arguments, or a comma in them, up to the `)`.
 pub const ARGUMENT_REST: &[Step] = &[Choice(
     &[TokenKind::SymParenRight],
     &[Token(&[TokenKind::SymParenRight])],
     &[Rule(Symbol::Expression), Rule(Symbol::ArgumentMore)],
 )];
 
+/// The steps of what follows an argument, up to the `)`.
 pub const ARGUMENT_MORE: &[Step] = &[Choice(
     &[TokenKind::SymComma],
     &[Token(&[TokenKind::SymComma]), Rule(Symbol::ArgumentRest)],
     &[Token(&[TokenKind::SymParenRight])],
 )];
 
+/// The steps of the components after a base, none too.
 pub const COMPONENTS: &[Step] = &[Repeat(
     &[TokenKind::SymBracketLeft, TokenKind::SymPeriod],
     &[Rule(Symbol::Component)],
 )];
 
+/// The steps of the factors after a first one, none too.
 pub const FACTORS: &[Step] = &[Repeat(
     CONTINUES_MULTIPLICATIVE_EXPRESSION,
     &[
@@ -225,6 +248,7 @@ pub const FACTORS: &[Step] = &[Repeat(
     ],
 )];
 
+/// The steps of the summands after a first one, none too.
 pub const SUMMANDS: &[Step] = &[Repeat(
     &[TokenKind::SymPlus, TokenKind::SymMinus],
     &[
@@ -237,6 +261,7 @@ pub const SUMMANDS: &[Step] = &[Repeat(
     ],
 )];
 
+/// The steps of what makes an operand a shift, or a sum of products.
 pub const SUM_REST: &[Step] = &[Choice(
     &[TokenKind::SymShiftLeft],
     &[
@@ -253,6 +278,7 @@ pub const SUM_REST: &[Step] = &[Choice(
     )],
 )];
 
+/// The steps of what makes an operand a comparison, or nothing.
 pub const RELATION_REST: &[Step] = &[Choice(
     &[
         TokenKind::SymLessThan,
@@ -289,6 +315,7 @@ pub const RELATION_REST: &[Step] = &[Choice(
     &[],
 )];
 
+/// The steps of the operands of `&&` after a first one.
 pub const AND_REST: &[Step] = &[
     Token(&[TokenKind::SymAndAnd]),
     Rule(Symbol::RelationalExpression),
@@ -301,6 +328,7 @@ pub const AND_REST: &[Step] = &[
     ),
 ];
 
+/// The steps of the operands of `||` after a first one.
 pub const OR_REST: &[Step] = &[
     Token(&[TokenKind::SymOrOr]),
     Rule(Symbol::RelationalExpression),
@@ -313,6 +341,7 @@ pub const OR_REST: &[Step] = &[
     ),
 ];
 
+/// The steps of the operands of `&` after a first one.
 pub const BITWISE_AND_REST: &[Step] = &[
     Token(&[TokenKind::SymAnd]),
     Rule(Symbol::UnaryExpression),
@@ -322,6 +351,7 @@ pub const BITWISE_AND_REST: &[Step] = &[
     ),
 ];
 
+/// The steps of the operands of `|` after a first one.
 pub const BITWISE_OR_REST: &[Step] = &[
     Token(&[TokenKind::SymOr]),
     Rule(Symbol::UnaryExpression),
@@ -331,6 +361,7 @@ pub const BITWISE_OR_REST: &[Step] = &[
     ),
 ];
 
+/// The steps of the operands of `^` after a first one.
 pub const BITWISE_XOR_REST: &[Step] = &[
     Token(&[TokenKind::SymXor]),
     Rule(Symbol::UnaryExpression),
@@ -340,6 +371,7 @@ pub const BITWISE_XOR_REST: &[Step] = &[
     ),
 ];
 
+/// The steps of what makes an operand an expression.
 pub const EXPRESSION_REST: &[Step] = &[Choice(
     &[TokenKind::SymAnd],
     &[Rule(Symbol::BitwiseAndRest)],
@@ -362,6 +394,7 @@ pub const EXPRESSION_REST: &[Step] = &[Choice(
     )],
 )];
 
+/// The steps of a left side in parentheses, with its components.
 pub const LEFT_SIDE_IN_PARENTHESES: &[Step] = &[
     Token(&[TokenKind::SymParenLeft]),
     Rule(Symbol::LhsExpression),
@@ -369,6 +402,7 @@ pub const LEFT_SIDE_IN_PARENTHESES: &[Step] = &[
     Rule(Symbol::Components),
 ];
 
+/// The steps of a left side that begins with `*` or `&`.
 pub const PREFIXED_LEFT_SIDE: &[Step] = &[Choice(
     &[TokenKind::SymStar],
     &[Token(&[TokenKind::SymStar]), Rule(Symbol::LhsExpression)],

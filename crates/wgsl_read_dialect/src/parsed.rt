@@ -4,6 +4,7 @@ use crate::rules::Symbol;
 use crate::step::Step::{self, Choice, Repeat, Rule, Token};
 use wgsl_lex_token::kind::TokenKind;
 
+/// The tokens that begin a statement that ends with a block.
 pub const BEGINS_BRACED_PART: &[TokenKind] = &[
     TokenKind::SymBraceLeft,
     TokenKind::KwFor,
@@ -13,6 +14,7 @@ pub const BEGINS_BRACED_PART: &[TokenKind] = &[
     TokenKind::KwWhile,
 ];
 
+/// The tokens that begin a statement other than `break` that a `;` ends.
 pub const BEGINS_ENDED_PART: &[TokenKind] = &[
     TokenKind::SymAnd,
     TokenKind::SymStar,
@@ -28,14 +30,17 @@ pub const BEGINS_ENDED_PART: &[TokenKind] = &[
     TokenKind::ReservedWord,
 ];
 
+/// The tokens that begin a `var`, an `override` or a function.
 pub const BEGINS_ATTRIBUTED_PART: &[TokenKind] = &[
     TokenKind::KwFn,
     TokenKind::KwOverride,
     TokenKind::KwVar,
 ];
 
+/// The steps of a name.
 pub const IDENT: &[Step] = &[Token(&[TokenKind::Ident, TokenKind::ReservedWord])];
 
+/// The steps of an attribute.
 pub const ATTRIBUTE: &[Step] = &[
     Token(&[TokenKind::SymAttr]),
     Token(&[
@@ -71,6 +76,7 @@ pub const ATTRIBUTE: &[Step] = &[
     Choice(&[TokenKind::SymParenLeft], &[Rule(Symbol::Arguments)], &[]),
 ];
 
+/// The steps of a statement.
 pub const STATEMENT: &[Step] = &[Choice(
     &[TokenKind::SymParenLeft, TokenKind::SymSemicolon],
     &[Rule(Symbol::PlainStatement)],
@@ -91,8 +97,10 @@ pub const STATEMENT: &[Step] = &[Choice(
     ],
 )];
 
+/// The steps of a clause of a `switch`.
 pub const SWITCH_CLAUSE: &[Step] = &[Rule(Symbol::AttributeList), Rule(Symbol::ClausePart)];
 
+/// The steps of what is done before the first turn of a `for`.
 pub const FOR_INIT: &[Step] = &[Choice(
     &[TokenKind::SymParenLeft],
     &[Rule(Symbol::ParenthesizedStatement)],
@@ -110,12 +118,14 @@ pub const FOR_INIT: &[Step] = &[Choice(
     ],
 )];
 
+/// The steps of what is done after each turn of a `for`.
 pub const FOR_UPDATE: &[Step] = &[Choice(
     &[TokenKind::SymParenLeft],
     &[Rule(Symbol::ParenthesizedStatement)],
     &[Rule(Symbol::AttributeList), Rule(Symbol::SimplePart)],
 )];
 
+/// The steps of a declaration of a module.
 pub const GLOBAL_DECLARATION: &[Step] = &[Choice(
     &[TokenKind::SymSemicolon],
     &[Token(&[TokenKind::SymSemicolon])],
@@ -129,6 +139,7 @@ pub const GLOBAL_DECLARATION: &[Step] = &[Choice(
     ],
 )];
 
+/// The steps of the summands after a first one, none too.
 pub const SUMMANDS: &[Step] = &[Repeat(
     &[
         TokenKind::SymPlus,
@@ -149,6 +160,7 @@ pub const SUMMANDS: &[Step] = &[Repeat(
     )],
 )];
 
+/// The steps of the statements of a `loop`, its `continuing` if there is one, and the `}`.
 pub const LOOP_REST: &[Step] = &[Choice(
     &[TokenKind::SymBraceRight],
     &[Token(&[TokenKind::SymBraceRight])],
@@ -183,6 +195,7 @@ pub const LOOP_REST: &[Step] = &[Choice(
     )],
 )];
 
+/// The steps of the statements of a `continuing`, its `break if` if there is one, and the `}`.
 pub const CONTINUING_REST: &[Step] = &[Choice(
     &[TokenKind::SymBraceRight],
     &[Token(&[TokenKind::SymBraceRight])],
@@ -222,6 +235,7 @@ pub const CONTINUING_REST: &[Step] = &[Choice(
     )],
 )];
 
+/// The steps of the directives and the declarations of a module, or those that are left.
 pub const FRONT: &[Step] = &[Choice(
     &[TokenKind::SymSemicolon],
     &[

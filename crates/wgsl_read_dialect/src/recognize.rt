@@ -37,9 +37,9 @@ fn recognize_unit(alloc: Global, dialect: Dialect, source: TokenSource) -> Resul
     source.answer(alloc, read, Expected::DECLARATION)
 }
 
-/// Whether a text is a module where it is recognised alone: names are identifiers alone, after `@`
-/// too, `--` is in no sum, and no attribute, `var` template or diagnostic is checked. Otherwise the
-/// error is the first token that can't are where it is; else the text that is no token; else that
+/// Checks whether a text is a module of the dialect: names are identifiers alone, after `@` too,
+/// `--` is in no sum, and no attribute, `var` template or diagnostic is checked. Otherwise the
+/// error is the first token that can't be where it is; else the text that is not a token; else that
 /// the text ends too early. No tree is made.
 pub fn recognize_str(alloc: Global, source: &str) -> Result<(), Error>
     ensures accepted { IfOk result (λ _. IsRecognized (chars source.now)) }
@@ -54,12 +54,12 @@ pub fn recognize_str(alloc: Global, source: &str) -> Result<(), Error>
     )
 }
 
-/// Whether a text with these tokens is a module, as `parse_str` reads them but without its checks:
-/// a reserved word is a name, and attributes, `var` templates and severities may say anything.
-/// Otherwise the error is the first token that can't be where it is; else the text that is no
-/// token; else that the text ends too early. No tree is made. Where rules of the grammar nest
-/// deeper than a number of levels, the error is of the kind `OutOfMemory`: the stack grows with
-/// each.
+/// Checks whether a text with these tokens is a module, as `parse_str` reads them but without its
+/// checks: a reserved word is a name, and attributes, `var` templates and severities may say
+/// anything. Otherwise the error is the first token that can't be where it is; else the text that
+/// is not a token; else that the text ends too early. No tree is made. Where rules of the grammar
+/// nest deeper than a number of levels, the error is of the kind `OutOfMemory`: the stack grows
+/// with each.
 pub fn check_syntax(
     alloc: Global,
     source: &str,

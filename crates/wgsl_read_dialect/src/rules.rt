@@ -12,7 +12,7 @@ use crate::dialect::Dialect;
 use crate::step::Step;
 use crate::{expressions, parsed, simple, statements, units};
 
-/// A symbol: those of the written grammar, and after them those that stand for a part of a rule.
+/// A symbol: those of the written grammar, and after them those that are a part of a rule.
 #[derive(Clone, Copy)]
 pub enum Symbol {
     Ident,
@@ -110,7 +110,7 @@ pub enum Symbol {
     Front,
 }
 
-/// The steps of a symbol.
+/// Returns the steps of a symbol in a dialect.
 pub fn right_side(dialect: Dialect, symbol: Symbol) -> &'static [Step]
     ensures { steps_view result.now ≡ rule_steps (dialect_view dialect) (symbol_view symbol) }
 {
@@ -120,7 +120,7 @@ pub fn right_side(dialect: Dialect, symbol: Symbol) -> &'static [Step]
     }
 }
 
-/// The steps of a symbol in the language that is parsed.
+/// Returns the steps of a symbol in the language that is parsed.
 fn parsed_side(symbol: Symbol) -> &'static [Step]
     ensures { steps_view result.now ≡ rule_steps parsed (symbol_view symbol) }
 {
@@ -221,7 +221,7 @@ fn parsed_side(symbol: Symbol) -> &'static [Step]
     }
 }
 
-/// The steps of a symbol in the smaller language.
+/// Returns the steps of a symbol in the smaller language.
 fn recognized_side(symbol: Symbol) -> &'static [Step]
     ensures { steps_view result.now ≡ rule_steps recognized (symbol_view symbol) }
 {

@@ -4,6 +4,7 @@ use crate::rules::Symbol;
 use crate::step::Step::{self, Choice, Rule, Token};
 use wgsl_lex_token::kind::TokenKind;
 
+/// The steps of `return`, with a value if there is one, without its `;`.
 pub const RETURNING_PART: &[Step] = &[
     Token(&[TokenKind::KwReturn]),
     Choice(
@@ -30,6 +31,7 @@ pub const RETURNING_PART: &[Step] = &[
     ),
 ];
 
+/// The steps of a `var` among statements, without its `;`.
 pub const LOCAL_PART: &[Step] = &[
     Rule(Symbol::VarTemplate),
     Rule(Symbol::TypedIdent),
@@ -40,6 +42,7 @@ pub const LOCAL_PART: &[Step] = &[
     ),
 ];
 
+/// The steps of a `let` or `const` among statements, without its `;`.
 pub const VALUE_PART: &[Step] = &[
     Choice(
         &[TokenKind::KwLet],
@@ -51,12 +54,14 @@ pub const VALUE_PART: &[Step] = &[
     Rule(Symbol::Expression),
 ];
 
+/// The steps of an assignment to `_`.
 pub const PHONY_PART: &[Step] = &[
     Token(&[TokenKind::SymUnderscore]),
     Token(&[TokenKind::SymEqual]),
     Rule(Symbol::Expression),
 ];
 
+/// The steps of a call, an assignment, an increment or a decrement that does not begin with `(`.
 pub const SIMPLE_PART: &[Step] = &[Choice(
     &[TokenKind::Ident, TokenKind::ReservedWord],
     &[Rule(Symbol::Ident), Rule(Symbol::NameRestStatement)],
@@ -67,8 +72,10 @@ pub const SIMPLE_PART: &[Step] = &[Choice(
     )],
 )];
 
+/// The steps of `const_assert` and its expression, without its `;`.
 pub const ASSERT_PART: &[Step] = &[Token(&[TokenKind::KwConstAssert]), Rule(Symbol::Expression)];
 
+/// The steps of what follows a left side: an operator and a value, or `++` or `--`.
 pub const LEFT_SIDE_REST: &[Step] = &[Choice(
     &[
         TokenKind::SymEqual,
@@ -134,6 +141,7 @@ pub const LEFT_SIDE_REST: &[Step] = &[Choice(
     )],
 )];
 
+/// The steps of what follows the name that a statement begins with.
 pub const NAME_REST_STATEMENT: &[Step] = &[Choice(
     &[TokenKind::TemplateArgsStart, TokenKind::SymParenLeft],
     &[
@@ -147,11 +155,13 @@ pub const NAME_REST_STATEMENT: &[Step] = &[Choice(
     &[Rule(Symbol::Components), Rule(Symbol::LeftSideRest)],
 )];
 
+/// The steps of an assignment, an increment or a decrement that begins with `(`.
 pub const PARENTHESIZED_STATEMENT: &[Step] = &[
     Rule(Symbol::LeftSideInParentheses),
     Rule(Symbol::LeftSideRest),
 ];
 
+/// The steps of a statement that has no attributes, with its `;`.
 pub const PLAIN_STATEMENT: &[Step] = &[Choice(
     &[TokenKind::SymSemicolon],
     &[Token(&[TokenKind::SymSemicolon])],

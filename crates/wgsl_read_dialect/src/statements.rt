@@ -4,6 +4,7 @@ use crate::rules::Symbol;
 use crate::step::Step::{self, Choice, Rule, Token};
 use wgsl_lex_token::kind::TokenKind;
 
+/// The tokens that begin attributes or a statement that ends with a block.
 pub const BEGINS_ATTRIBUTE_LIST_BRACED_PART: &[TokenKind] = &[
     TokenKind::SymAttr,
     TokenKind::SymBraceLeft,
@@ -14,6 +15,7 @@ pub const BEGINS_ATTRIBUTE_LIST_BRACED_PART: &[TokenKind] = &[
     TokenKind::KwWhile,
 ];
 
+/// The tokens that begin a statement other than `break` that a `;` ends.
 pub const BEGINS_ENDED_PART: &[TokenKind] = &[
     TokenKind::SymAnd,
     TokenKind::SymStar,
@@ -29,12 +31,14 @@ pub const BEGINS_ENDED_PART: &[TokenKind] = &[
     TokenKind::ReservedWord,
 ];
 
+/// The steps of a block.
 pub const COMPOUND_STATEMENT: &[Step] = &[
     Rule(Symbol::AttributeList),
     Token(&[TokenKind::SymBraceLeft]),
     Rule(Symbol::StatementRest),
 ];
 
+/// The steps of a statement.
 pub const STATEMENT: &[Step] = &[Choice(
     &[TokenKind::SymParenLeft, TokenKind::SymSemicolon],
     &[Rule(Symbol::PlainStatement)],
@@ -52,14 +56,17 @@ pub const STATEMENT: &[Step] = &[Choice(
     )],
 )];
 
+/// The steps of a clause of a `switch`.
 pub const SWITCH_CLAUSE: &[Step] = &[Rule(Symbol::ClausePart)];
 
+/// The steps of a selector of a clause.
 pub const CASE_SELECTOR: &[Step] = &[Choice(
     &[TokenKind::KwDefault],
     &[Token(&[TokenKind::KwDefault])],
     &[Rule(Symbol::Expression)],
 )];
 
+/// The steps of what is done before the first turn of a `for`.
 pub const FOR_INIT: &[Step] = &[Choice(
     &[TokenKind::SymParenLeft],
     &[Rule(Symbol::ParenthesizedStatement)],
@@ -74,12 +81,14 @@ pub const FOR_INIT: &[Step] = &[Choice(
     )],
 )];
 
+/// The steps of what is done after each turn of a `for`.
 pub const FOR_UPDATE: &[Step] = &[Choice(
     &[TokenKind::SymParenLeft],
     &[Rule(Symbol::ParenthesizedStatement)],
     &[Rule(Symbol::SimplePart)],
 )];
 
+/// The steps of selectors with commas between, also after the last.
 pub const SELECTORS: &[Step] = &[
     Rule(Symbol::CaseSelector),
     Choice(
@@ -114,12 +123,14 @@ pub const SELECTORS: &[Step] = &[
     ),
 ];
 
+/// The steps of statements and the `}` after them.
 pub const STATEMENT_REST: &[Step] = &[Choice(
     &[TokenKind::SymBraceRight],
     &[Token(&[TokenKind::SymBraceRight])],
     &[Rule(Symbol::Statement), Rule(Symbol::StatementRest)],
 )];
 
+/// The steps of the statements of a `loop`, its `continuing` if there is one, and the `}`.
 pub const LOOP_REST: &[Step] = &[Choice(
     &[TokenKind::SymBraceRight],
     &[Token(&[TokenKind::SymBraceRight])],
@@ -155,6 +166,7 @@ pub const LOOP_REST: &[Step] = &[Choice(
     )],
 )];
 
+/// The steps of the statements of a `continuing`, its `break if` if there is one, and the `}`.
 pub const CONTINUING_REST: &[Step] = &[Choice(
     &[TokenKind::SymBraceRight],
     &[Token(&[TokenKind::SymBraceRight])],
@@ -192,12 +204,14 @@ pub const CONTINUING_REST: &[Step] = &[Choice(
     )],
 )];
 
+/// The steps of further clauses of a `switch` and the `}` after them.
 pub const CLAUSE_REST: &[Step] = &[Choice(
     &[TokenKind::SymBraceRight],
     &[Token(&[TokenKind::SymBraceRight])],
     &[Rule(Symbol::SwitchClause), Rule(Symbol::ClauseRest)],
 )];
 
+/// The steps of the clauses of an `if` after the first.
 pub const ELSE_REST: &[Step] = &[Choice(
     &[TokenKind::KwElse],
     &[
@@ -216,24 +230,28 @@ pub const ELSE_REST: &[Step] = &[Choice(
     &[],
 )];
 
+/// The steps of what is done before the first turn of a `for`, if anything, and its `;`.
 pub const INIT_PART: &[Step] = &[Choice(
     &[TokenKind::SymSemicolon],
     &[Token(&[TokenKind::SymSemicolon])],
     &[Rule(Symbol::ForInit), Token(&[TokenKind::SymSemicolon])],
 )];
 
+/// The steps of the condition of a `for`, if there is one, and its `;`.
 pub const CONDITION_PART: &[Step] = &[Choice(
     &[TokenKind::SymSemicolon],
     &[Token(&[TokenKind::SymSemicolon])],
     &[Rule(Symbol::Expression), Token(&[TokenKind::SymSemicolon])],
 )];
 
+/// The steps of what is done after each turn of a `for`, if anything, and the `)`.
 pub const UPDATE_PART: &[Step] = &[Choice(
     &[TokenKind::SymParenRight],
     &[Token(&[TokenKind::SymParenRight])],
     &[Rule(Symbol::ForUpdate), Token(&[TokenKind::SymParenRight])],
 )];
 
+/// The steps of a statement that ends with a block.
 pub const BRACED_PART: &[Step] = &[Choice(
     &[TokenKind::KwIf],
     &[
@@ -287,6 +305,7 @@ pub const BRACED_PART: &[Step] = &[Choice(
     )],
 )];
 
+/// The steps of a statement other than `break` that a `;` ends, with its `;`.
 pub const ENDED_PART: &[Step] = &[
     Choice(
         &[TokenKind::KwReturn],
@@ -322,6 +341,7 @@ pub const ENDED_PART: &[Step] = &[
     Token(&[TokenKind::SymSemicolon]),
 ];
 
+/// The steps of a clause of a `switch` after its attributes.
 pub const CLAUSE_PART: &[Step] = &[Choice(
     &[TokenKind::KwCase],
     &[
@@ -345,6 +365,7 @@ pub const CLAUSE_PART: &[Step] = &[Choice(
     ],
 )];
 
+/// The steps of a `continuing`.
 pub const CONTINUING_PART: &[Step] = &[
     Token(&[TokenKind::KwContinuing]),
     Rule(Symbol::AttributeList),

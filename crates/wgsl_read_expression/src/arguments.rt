@@ -14,7 +14,7 @@ use wgsl_lex_token::kind::TokenKind;
 use wgsl_read_cursor::{Cursor, Fault, add};
 use wgsl_tree_expression::ExpressionNode;
 
-/// Arguments in parentheses.
+/// Reads arguments in parentheses.
 #[cycle(expression)]
 pub fn parse_arguments(alloc: Global, tokens: &mut Cursor) -> Result<Vec<ExpressionNode>, Fault>
     ensures { Parses (λ args. map expression_node_view args.items) result tokens.old tokens.new

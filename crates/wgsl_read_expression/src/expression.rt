@@ -20,7 +20,7 @@ use wgsl_read_cursor::{Cursor, Fault};
 use wgsl_tree_expression::ExpressionNode;
 use wgsl_tree_words::BinaryOperator;
 
-/// An expression.
+/// Reads an expression.
 #[cycle(expression)]
 pub fn parse_expression(alloc: Global, tokens: &mut Cursor) -> Result<ExpressionNode, Fault>
     ensures { Parses expression_node_view result tokens.old tokens.new (reader (of expression)) }

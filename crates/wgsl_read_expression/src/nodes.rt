@@ -16,12 +16,14 @@ use wgsl_tree_expression::{
 };
 use wgsl_tree_words::{BinaryOperator, UnaryOperator};
 
+/// Returns an expression in parentheses.
 pub fn parenthesized(expression: ExpressionNode) -> Expression
     ensures { expression_view result ≡ plain.parenthesized (expression_node_view expression) }
 {
     Expression::Parenthesized(ParenthesizedExpression { expression })
 }
 
+/// Returns a component of a base by its name.
 pub fn named_component(base: ExpressionNode, component: Ident) -> Expression
     ensures { expression_view result
         ≡ plain.named_component (expression_node_view base) (ident_name component) }
@@ -29,6 +31,7 @@ pub fn named_component(base: ExpressionNode, component: Ident) -> Expression
     Expression::NamedComponent(NamedComponentExpression { base, component })
 }
 
+/// Returns a component of a base by an index.
 pub fn indexing(base: ExpressionNode, index: ExpressionNode) -> Expression
     ensures { expression_view result
         ≡ plain.indexing (expression_node_view base) (expression_node_view index) }
@@ -36,6 +39,7 @@ pub fn indexing(base: ExpressionNode, index: ExpressionNode) -> Expression
     Expression::Indexing(IndexingExpression { base, index })
 }
 
+/// Returns an operand with an operator before it.
 pub fn unary(operator: UnaryOperator, operand: ExpressionNode) -> Expression
     ensures { expression_view result
         ≡ plain.unary (unary_operator_view operator) (expression_node_view operand) }
@@ -43,6 +47,7 @@ pub fn unary(operator: UnaryOperator, operand: ExpressionNode) -> Expression
     Expression::Unary(UnaryExpression { operator, operand })
 }
 
+/// Returns two operands with an operator between.
 pub fn binary(left: ExpressionNode, operator: BinaryOperator, right: ExpressionNode) -> Expression
     ensures { expression_view result ≡ plain.binary
         (binary_operator_view operator) (expression_node_view left) (expression_node_view right) }
@@ -54,6 +59,7 @@ pub fn binary(left: ExpressionNode, operator: BinaryOperator, right: ExpressionN
     })
 }
 
+/// Returns a call with its arguments.
 pub fn call(ty: TypeExpression, arguments: Vec<ExpressionNode>) -> Expression
     ensures { expression_view result ≡ plain.function_call (plain.call (type_expression_view ty)
         (plain.expressions_of (map expression_node_view arguments.items))) }
@@ -61,12 +67,14 @@ pub fn call(ty: TypeExpression, arguments: Vec<ExpressionNode>) -> Expression
     Expression::FunctionCall(FunctionCall { ty, arguments })
 }
 
+/// Returns an expression as an argument of a template.
 pub fn template_arg(expression: ExpressionNode) -> TemplateArg
     ensures { template_arg_view result ≡ expression_node_view expression }
 {
     TemplateArg { expression }
 }
 
+/// Returns an identifier with the arguments of its template, if it has one.
 pub fn type_expression(ident: Ident, template_args: TemplateArgs) -> TypeExpression
     ensures { type_expression_view result ≡ plain.type_expression (ident_name ident)
         (plain.template_of (option_map (λ args. map template_arg_view args.items) template_args)) }
@@ -77,7 +85,8 @@ pub fn type_expression(ident: Ident, template_args: TemplateArgs) -> TypeExpress
     }
 }
 
-/// Two operands with an operator between, from the first one's start to the second one's end.
+/// Returns two operands with an operator between, from the first one's start to the second one's
+/// end.
 pub fn join(
     alloc: Global,
     left: ExpressionNode,

@@ -43,7 +43,7 @@ fn is_operator(kind: TokenKind) -> bool
     )
 }
 
-/// Whether an operator between two operands is next.
+/// Returns whether an operator between two operands is next.
 pub fn is_at_operator(tokens: &Cursor) -> bool
     ensures { result ≡ is_any binary_operators (state tokens.now) }
 {

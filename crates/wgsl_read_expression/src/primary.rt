@@ -23,7 +23,7 @@ use wgsl_read_cursor::{Cursor, Expected, Fault};
 use wgsl_span::Spanned;
 use wgsl_tree_expression::{Expression, ExpressionNode};
 
-/// A primary expression and its components.
+/// Reads a primary expression and its components.
 #[cycle(expression)]
 pub fn parse_singular_expression(
     alloc: Global,
@@ -84,7 +84,7 @@ fn parse_parenthesized(alloc: Global, tokens: &mut Cursor) -> Result<Expression,
     Ok(parenthesized(expression))
 }
 
-/// The components after a base, none too.
+/// Reads the components after a base, none too.
 #[cycle(expression)]
 pub fn parse_components(
     alloc: Global,

@@ -23,7 +23,7 @@ use wgsl_span::Spanned;
 use wgsl_tree_expression::ExpressionNode;
 use wgsl_tree_words::{BinaryOperator, UnaryOperator};
 
-/// A shift or a sum.
+/// Reads a shift or a sum.
 #[cycle(expression)]
 pub fn parse_shift_expression(alloc: Global, tokens: &mut Cursor) -> Result<ExpressionNode, Fault>
     ensures { Parses expression_node_view result tokens.old tokens.new
@@ -33,7 +33,7 @@ pub fn parse_shift_expression(alloc: Global, tokens: &mut Cursor) -> Result<Expr
     parse_sum_rest(alloc, tokens, left)
 }
 
-/// What makes an operand a shift, or a sum of products.
+/// Reads what makes an operand a shift, or a sum of products.
 #[cycle(expression)]
 pub fn parse_sum_rest(
     alloc: Global,

@@ -16,7 +16,7 @@ use wgsl_lex_token::token::Token;
 use wgsl_read_cursor::{Cursor, Expected, Fault};
 use wgsl_tree_expression::{Ident, LiteralExpression};
 
-/// A name.
+/// Reads a name.
 pub fn parse_ident(tokens: &mut Cursor) -> Result<Ident, Fault>
     ensures value { Gives (λ _. first_of (state tokens.old)) result
         (state tokens.new) (reader (of ident) (state tokens.old)) }
@@ -27,7 +27,7 @@ pub fn parse_ident(tokens: &mut Cursor) -> Result<Ident, Fault>
     Ok(Ident::new(tokens.name()?))
 }
 
-/// A literal. `expected` is what could be in its place.
+/// Reads a literal. `expected` is what could be in its place.
 pub fn parse_literal(
     alloc: Global,
     tokens: &mut Cursor,

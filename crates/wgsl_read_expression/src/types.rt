@@ -17,7 +17,7 @@ use wgsl_lex_token::kind::TokenKind;
 use wgsl_read_cursor::{Cursor, Fault};
 use wgsl_tree_expression::{TemplateArg, TemplateArgs, TypeExpression};
 
-/// A type, or an identifier with the arguments of its template.
+/// Reads a type, or an identifier with the arguments of its template.
 #[cycle(expression)]
 pub fn parse_type_specifier(alloc: Global, tokens: &mut Cursor) -> Result<TypeExpression, Fault>
     ensures { Parses type_expression_view result tokens.old tokens.new
@@ -39,7 +39,7 @@ fn parse_optional_template_list(alloc: Global, tokens: &mut Cursor) -> Result<Te
     Ok(Some(parse_template_list(alloc, tokens)?))
 }
 
-/// A template list.
+/// Reads a template list.
 #[cycle(expression)]
 pub fn parse_template_list(alloc: Global, tokens: &mut Cursor) -> Result<Vec<TemplateArg>, Fault>
     ensures { Parses (λ args. map template_arg_view args.items) result tokens.old tokens.new

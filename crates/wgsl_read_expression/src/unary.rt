@@ -15,7 +15,8 @@ use wgsl_read_cursor::{Cursor, Fault};
 use wgsl_span::Spanned;
 use wgsl_tree_expression::ExpressionNode;
 
-/// An operand with the operators before it. Each expression inside another is inside its operand.
+/// Reads an operand with the operators before it. Each expression inside another is inside its
+/// operand.
 #[cycle(expression)]
 pub fn parse_unary_expression(alloc: Global, tokens: &mut Cursor) -> Result<ExpressionNode, Fault>
     ensures { Parses expression_node_view result tokens.old tokens.new

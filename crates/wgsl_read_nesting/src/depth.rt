@@ -66,9 +66,9 @@ fn nesting_of(alloc: Global, tokens: TextTokens) -> Result<usize, AllocError>
     Ok(deepest.max(opened.depth()))
 }
 
-/// The greatest number of brackets, blocks, template lists and prefix operators that are open at
-/// one place of a text, up to its first invalid token. A text is parsed, printed and dropped on
-/// a stack that grows with this number. The error is of the kind `OutOfMemory`.
+/// Returns the greatest number of brackets, blocks, template lists and prefix operators that are
+/// open at one place of a text, up to its first invalid token. A text is parsed, printed and
+/// dropped on a stack that grows with this number. The error is of the kind `OutOfMemory`.
 pub fn nesting(alloc: Global, source: &str) -> Result<usize, Error>
     ensures value { IfOk result (λ depth. (ts : List grammar.Token) ×
         (e : Ending) × IsTokenList (chars source.now) ts e × (depth ≡ nesting ts)) }

@@ -8,7 +8,7 @@ ghost use Rattle.wgsl_read_nesting.specs.Effects.{begins_with_operator};
 use std::alloc::{AllocError, Global};
 use std::marker::Model;
 
-/// Something that is open.
+/// A bracket, a block, a template list or a prefix operator that is open.
 #[derive(Clone, Copy)]
 pub enum Open {
     /// A bracket, a block or a template list.
@@ -17,7 +17,7 @@ pub enum Open {
     Operator,
 }
 
-/// What is open, the innermost last; seen as a list, the innermost first.
+/// The list of what is open, the innermost last; seen as a list, the innermost first.
 #[derive(Drop)]
 pub struct Opened {
     items: Vec<Open>,

@@ -20,7 +20,7 @@ use wgsl_tree_attribute::Attributes;
 use wgsl_tree_simple::{BreakIfStatement, BreakStatement};
 use wgsl_tree_statement::{Statement, StatementNode};
 
-/// A `break` with its attributes, that is there.
+/// Returns a `break` with its attributes, that is at a span.
 pub fn break_node(
     alloc: Global,
     attributes: Attributes,
@@ -32,7 +32,7 @@ pub fn break_node(
     Spanned::new(alloc, Statement::Break(BreakStatement { attributes }), span)
 }
 
-/// A `break if` with its attributes, after its `break`, and the `}` after it.
+/// Reads a `break if` with its attributes, after its `break`, and the `}` after it.
 pub fn parse_break_if_rest(
     alloc: Global,
     tokens: &mut Cursor,

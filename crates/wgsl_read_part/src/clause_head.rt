@@ -25,7 +25,7 @@ const SWITCH_CLAUSE: Expected = Expected::OneOf(&[
     TokenKind::KwDefault,
 ]);
 
-/// `case` with its selectors, or `default`, and a `:` if there is one.
+/// Reads `case` with its selectors, or `default`, and a `:` if there is one.
 pub fn parse_clause_head(alloc: Global, tokens: &mut Cursor) -> Result<Vec<CaseSelector>, Fault>
     ensures { Parses (λ selectors.
         map selector_view selectors.items) result tokens.old tokens.new clause_head_at }

@@ -28,14 +28,15 @@ use wgsl_tree_attribute::Attributes;
 use wgsl_tree_expression::ExpressionNode;
 use wgsl_tree_statement::{Statement, StatementNode};
 
-/// What is done before the first turn of a `for`, its condition, and what is done after each turn.
+/// The statement before the first turn of a `for`, its condition, and the statement after each
+/// turn, each where there is one.
 pub type ForHeader = (
     Option<StatementNode>,
     Option<ExpressionNode>,
     Option<StatementNode>,
 );
 
-/// `for` and its header in parentheses.
+/// Reads `for` and its header in parentheses.
 #[inline(never)]
 pub fn parse_for_header(alloc: Global, tokens: &mut Cursor) -> Result<ForHeader, Fault>
     ensures { Parses (λ header. (option_map statement_node_view header.0, (option_map expression_node_view header.1, option_map statement_node_view header.2))) result tokens.old tokens.new for_header_at }

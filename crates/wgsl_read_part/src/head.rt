@@ -15,7 +15,7 @@ use wgsl_read_expression::parse_expression;
 use wgsl_tree_attribute::Attributes;
 use wgsl_tree_expression::ExpressionNode;
 
-/// A keyword and the condition after it.
+/// Reads a keyword and the condition after it.
 pub fn parse_condition(
     alloc: Global,
     tokens: &mut Cursor,
@@ -28,7 +28,7 @@ pub fn parse_condition(
     parse_expression(alloc, tokens)
 }
 
-/// Attributes and the `{` after them.
+/// Reads attributes and the `{` after them.
 pub fn parse_block_start(alloc: Global, tokens: &mut Cursor) -> Result<Attributes, Fault>
     ensures { Parses (λ attributes.
         attributes_view attributes.items) result tokens.old tokens.new block_start_at }
@@ -38,7 +38,7 @@ pub fn parse_block_start(alloc: Global, tokens: &mut Cursor) -> Result<Attribute
     Ok(attributes)
 }
 
-/// A keyword, attributes, and the `{` after them.
+/// Reads a keyword, attributes, and the `{` after them.
 pub fn parse_block_start_after(
     alloc: Global,
     tokens: &mut Cursor,
@@ -51,7 +51,7 @@ pub fn parse_block_start_after(
     parse_block_start(alloc, tokens)
 }
 
-/// `switch`, its expression, the attributes of its body, and the `{` after them.
+/// Reads `switch`, its expression, the attributes of its body, and the `{` after them.
 pub fn parse_switch_head(
     alloc: Global,
     tokens: &mut Cursor,

@@ -25,14 +25,15 @@ use wgsl_tree_attribute::Attributes;
 use wgsl_tree_simple::{BreakStatement, ConstAssert};
 use wgsl_tree_statement::{Statement, StatementNode};
 
-/// Whether the next token begins a statement that has no attributes: an empty one, or one whose left side begins with `(`.
+/// Returns whether the next token begins a statement that has no attributes: an empty one, or one
+/// whose left side begins with `(`.
 pub fn begins_plain_statement(tokens: &Cursor) -> bool
     ensures { result ≡ is_any (class.SymParenLeft ∷ (class.SymSemicolon ∷ [])) (state tokens.now) }
 {
     tokens.is_at(TokenKind::SymParenLeft) || tokens.is_at(TokenKind::SymSemicolon)
 }
 
-/// A statement that has no attributes, with its `;`.
+/// Reads a statement that has no attributes, with its `;`.
 #[inline(never)]
 pub fn parse_plain_statement(alloc: Global, tokens: &mut Cursor) -> Result<StatementNode, Fault>
     ensures { Parses statement_node_view result tokens.old tokens.new
@@ -55,7 +56,7 @@ fn parse_unplaced_plain(alloc: Global, tokens: &mut Cursor) -> Result<Statement,
     Ok(statement)
 }
 
-/// `break` after its attributes, with its `;`.
+/// Reads `break` after its attributes, with its `;`.
 #[inline(never)]
 pub fn parse_break_part(tokens: &mut Cursor, attributes: Attributes) -> Result<Statement, Fault>
     ensures { Parses statement_view result tokens.old tokens.new
@@ -66,7 +67,7 @@ pub fn parse_break_part(tokens: &mut Cursor, attributes: Attributes) -> Result<S
     Ok(Statement::Break(BreakStatement { attributes }))
 }
 
-/// A statement other than `break` that a `;` ends, after its attributes, with its `;`.
+/// Reads a statement other than `break` that a `;` ends, after its attributes, with its `;`.
 /// `expected` is what could be in the place of a token that begins none.
 #[inline(never)]
 pub fn parse_ended_part(

@@ -24,7 +24,7 @@ use wgsl_tree_expression::{ExpressionNode, Ident, TemplateArg, TypeExpression};
 use wgsl_tree_simple::DeclarationKind;
 use wgsl_tree_words::{AccessMode, AddressSpace};
 
-/// `var` and its template.
+/// Reads `var` and its template.
 pub fn parse_var_kind(alloc: Global, tokens: &mut Cursor) -> Result<DeclarationKind, Fault>
     ensures { Parses declaration_kind_view result tokens.old tokens.new var_kind_at }
 {
@@ -90,7 +90,7 @@ fn mode_in_space(space: AddressSpace, mode: ExpressionNode) -> Result<AccessMode
     }
 }
 
-/// A name, and its type if there is one.
+/// Reads a name, and its type if there is one.
 pub fn parse_typed_ident(
     alloc: Global,
     tokens: &mut Cursor,

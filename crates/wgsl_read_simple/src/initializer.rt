@@ -12,7 +12,7 @@ use wgsl_read_cursor::{Cursor, Fault};
 use wgsl_read_expression::parse_expression;
 use wgsl_tree_expression::ExpressionNode;
 
-/// `=` and a value.
+/// Reads `=` and a value.
 pub fn parse_initializer(alloc: Global, tokens: &mut Cursor) -> Result<ExpressionNode, Fault>
     ensures { Parses expression_node_view result tokens.old tokens.new initializer_at }
 {
@@ -20,7 +20,7 @@ pub fn parse_initializer(alloc: Global, tokens: &mut Cursor) -> Result<Expressio
     parse_expression(alloc, tokens)
 }
 
-/// `=` and a value, or nothing.
+/// Reads `=` and a value, or nothing.
 pub fn parse_maybe_initializer(
     alloc: Global,
     tokens: &mut Cursor,

@@ -34,14 +34,14 @@ const LEFT_SIDE: Expected = Expected::OneOf(&[
     TokenKind::Ident,
 ]);
 
-/// Whether the next token is a name, or a reserved word in the place of one.
+/// Returns whether the next token is a name, or a reserved word in the place of one.
 pub fn begins_name(tokens: &Cursor) -> bool
     ensures { result ≡ is_any (class.Ident ∷ (class.ReservedWord ∷ [])) (state tokens.now) }
 {
     tokens.is_at(TokenKind::Ident) || tokens.is_at(TokenKind::ReservedWord)
 }
 
-/// A left side: a name with its components, one after `*` or `&`, or one in parentheses.
+/// Reads a left side: a name with its components, one after `*` or `&`, or one in parentheses.
 #[cycle(left_side)]
 pub fn parse_lhs_expression(alloc: Global, tokens: &mut Cursor) -> Result<ExpressionNode, Fault>
     ensures { Parses expression_node_view result tokens.old tokens.new
@@ -60,7 +60,7 @@ pub fn parse_lhs_expression(alloc: Global, tokens: &mut Cursor) -> Result<Expres
     Err(tokens.refuse(LEFT_SIDE))
 }
 
-/// Whether the next token is `*` or `&`.
+/// Returns whether the next token is `*` or `&`.
 pub fn begins_prefixed_left_side(tokens: &Cursor) -> bool
     ensures { result ≡ is_any (class.SymAnd ∷ (class.SymStar ∷ [])) (state tokens.now) }
 {
@@ -76,7 +76,7 @@ fn parse_left_name(alloc: Global, tokens: &mut Cursor) -> Result<ExpressionNode,
     Ok(left_name(alloc, ident, tokens.span_from(start))?)
 }
 
-/// A name as a left side.
+/// Returns a name as a left side.
 pub fn left_name(alloc: Global, ident: Ident, span: Span) -> Result<ExpressionNode, AllocError>
     ensures { IfOk result (λ made. expression_node_view made
         ≡ expression_node (variable (ident_name ident)) (span_view span)) }
@@ -88,7 +88,7 @@ pub fn left_name(alloc: Global, ident: Ident, span: Span) -> Result<ExpressionNo
     Spanned::new(alloc, variable, span)
 }
 
-/// A left side in parentheses, with its components.
+/// Reads a left side in parentheses, with its components.
 #[cycle(left_side)]
 pub fn parse_left_side_in_parentheses(
     alloc: Global,
@@ -101,7 +101,7 @@ pub fn parse_left_side_in_parentheses(
     parse_components(alloc, tokens, base)
 }
 
-/// A left side that begins with `*` or `&`.
+/// Reads a left side that begins with `*` or `&`.
 #[cycle(left_side)]
 pub fn parse_prefixed_left_side(alloc: Global, tokens: &mut Cursor) -> Result<ExpressionNode, Fault>
     ensures { Parses expression_node_view result tokens.old tokens.new

@@ -63,8 +63,8 @@ const LEFT_SIDE_REST: Expected = Expected::OneOf(&[
     TokenKind::SymShiftLeftAssign,
 ]);
 
-/// A call, an assignment, an increment or a decrement, after its attributes. Its left side begins
-/// with no `(`.
+/// Reads a call, an assignment, an increment or a decrement, after its attributes. Its left side
+/// begins with no `(`.
 pub fn parse_simple_part(
     alloc: Global,
     tokens: &mut Cursor,
@@ -86,7 +86,7 @@ pub fn parse_simple_part(
     Err(tokens.refuse(SIMPLE_PART))
 }
 
-/// An assignment, an increment or a decrement whose left side begins with `(`. It has no
+/// Reads an assignment, an increment or a decrement whose left side begins with `(`. It has no
 /// attributes.
 pub fn parse_parenthesized_statement(alloc: Global, tokens: &mut Cursor) -> Result<Statement, Fault>
     ensures { Parses statement_view result tokens.old tokens.new

@@ -32,7 +32,7 @@ use wgsl_tree_statement::Statement;
 /// What begins the declaration of a value that does not vary.
 const VALUE_PART: Expected = Expected::OneOf(&[TokenKind::KwConst, TokenKind::KwLet]);
 
-/// `return` after its attributes, with a value if there is one, without its `;`.
+/// Reads `return` after its attributes, with a value if there is one, without its `;`.
 pub fn parse_returning_part(
     alloc: Global,
     tokens: &mut Cursor,
@@ -85,7 +85,7 @@ fn begins_expression(tokens: &Cursor) -> bool
         || tokens.is_at(TokenKind::F16)
 }
 
-/// A `var` after its attributes, without its `;`.
+/// Reads a `var` after its attributes, without its `;`.
 pub fn parse_local_part(
     alloc: Global,
     tokens: &mut Cursor,
@@ -106,7 +106,7 @@ pub fn parse_local_part(
     }))
 }
 
-/// A `let` or `const` after its attributes, without its `;`.
+/// Reads a `let` or `const` after its attributes, without its `;`.
 pub fn parse_value_part(
     alloc: Global,
     tokens: &mut Cursor,
@@ -127,7 +127,7 @@ pub fn parse_value_part(
     }))
 }
 
-/// Whether the next token is `let` or `const`.
+/// Returns whether the next token is `let` or `const`.
 pub fn begins_value_part(tokens: &Cursor) -> bool
     ensures { result ≡ is_any (class.KwConst ∷ (class.KwLet ∷ [])) (state tokens.now) }
 {
@@ -147,7 +147,7 @@ fn parse_value_kind(tokens: &mut Cursor) -> Result<DeclarationKind, Fault>
     Err(tokens.refuse(VALUE_PART))
 }
 
-/// `continue` after its attributes, without its `;`.
+/// Reads `continue` after its attributes, without its `;`.
 pub fn parse_continue(tokens: &mut Cursor, attributes: Attributes) -> Result<Statement, Fault>
     ensures { Parses statement_view result tokens.old tokens.new (after_attributes statement
         (attributes_view attributes.items) (word_at class.KwContinue plain.continue_statement)) }
@@ -156,7 +156,7 @@ pub fn parse_continue(tokens: &mut Cursor, attributes: Attributes) -> Result<Sta
     Ok(Statement::Continue(ContinueStatement { attributes }))
 }
 
-/// `discard` after its attributes, without its `;`.
+/// Reads `discard` after its attributes, without its `;`.
 pub fn parse_discard(tokens: &mut Cursor, attributes: Attributes) -> Result<Statement, Fault>
     ensures { Parses statement_view result tokens.old tokens.new (after_attributes statement
         (attributes_view attributes.items) (word_at class.KwDiscard plain.discard_statement)) }
@@ -165,7 +165,7 @@ pub fn parse_discard(tokens: &mut Cursor, attributes: Attributes) -> Result<Stat
     Ok(Statement::Discard(DiscardStatement { attributes }))
 }
 
-/// `const_assert` and its expression, without its `;`.
+/// Reads `const_assert` and its expression, without its `;`.
 pub fn parse_assert_part(alloc: Global, tokens: &mut Cursor) -> Result<ExpressionNode, Fault>
     ensures { Parses
         (λ expression. assert_of (expression_node_view expression)) result tokens.old tokens.new

@@ -19,7 +19,7 @@ use wgsl_read_part::parse_block_start;
 use wgsl_tree_attribute::Attributes;
 use wgsl_tree_statement::{CompoundStatement, Statement, StatementNode};
 
-/// A block.
+/// Reads a block.
 #[tactic(auto, using(crate::proofs::Blocks::compounds))]
 #[cycle(statement)]
 pub fn parse_compound_statement(
@@ -37,7 +37,7 @@ pub fn parse_compound_statement(
     })
 }
 
-/// A block as a statement, after its attributes.
+/// Reads a block as a statement, after its attributes.
 #[tactic(auto, using(crate::proofs::Blocks::blocks))]
 #[inline(never)]
 #[cycle(statement)]

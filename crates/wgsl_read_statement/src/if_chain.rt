@@ -19,7 +19,7 @@ use wgsl_read_part::parse_condition;
 use wgsl_tree_attribute::Attributes;
 use wgsl_tree_statement::{ElseClause, ElseIfClause, IfClause, IfStatement, Statement};
 
-/// An `if` with all of its clauses, after its attributes.
+/// Reads an `if` with all of its clauses, after its attributes.
 #[tactic(auto, using(crate::proofs::IfChains::ifs))]
 #[inline(never)]
 #[cycle(statement)]

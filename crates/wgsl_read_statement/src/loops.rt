@@ -28,7 +28,7 @@ use wgsl_tree_statement::{
     WhileStatement,
 };
 
-/// A `loop`, after its attributes.
+/// Reads a `loop`, after its attributes.
 #[tactic(auto, using(crate::proofs::LoopParts::loops))]
 #[inline(never)]
 #[cycle(statement)]
@@ -132,7 +132,7 @@ fn parse_continuing_rest(
     Ok((statements, None))
 }
 
-/// A `while`, after its attributes.
+/// Reads a `while`, after its attributes.
 #[tactic(auto, using(crate::proofs::LoopParts::whiles))]
 #[inline(never)]
 #[cycle(statement)]
@@ -153,7 +153,7 @@ pub fn parse_while_part(
     }))
 }
 
-/// A `for`, after its attributes.
+/// Reads a `for`, after its attributes.
 #[tactic(auto, using(crate::proofs::LoopParts::fors))]
 #[inline(never)]
 #[cycle(statement)]

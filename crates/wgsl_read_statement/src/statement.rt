@@ -76,7 +76,7 @@ const ATTRIBUTED_STATEMENT: Expected = Expected::OneOf(&[
     TokenKind::Ident,
 ]);
 
-/// A statement. What begins with `;` or `(` has no attributes.
+/// Reads a statement. What begins with `;` or `(` has no attributes.
 #[cycle(statement)]
 pub fn parse_statement(alloc: Global, tokens: &mut Cursor) -> Result<StatementNode, Fault>
     ensures { Parses statement_node_view result tokens.old tokens.new
@@ -90,8 +90,8 @@ pub fn parse_statement(alloc: Global, tokens: &mut Cursor) -> Result<StatementNo
     parse_statement_after(alloc, tokens, attributes, start)
 }
 
-/// A statement after its attributes, and its place, which begins where they do. Each statement
-/// inside another is read by this.
+/// Reads a statement after its attributes, and its place, which begins where they do. Each
+/// statement inside another is read by this.
 #[cycle(statement)]
 pub fn parse_statement_after(
     alloc: Global,

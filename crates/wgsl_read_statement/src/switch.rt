@@ -21,7 +21,7 @@ use wgsl_read_part::{parse_clause_head, parse_switch_head};
 use wgsl_tree_attribute::Attributes;
 use wgsl_tree_statement::{Statement, SwitchClause, SwitchStatement};
 
-/// A `switch`, after its attributes.
+/// Reads a `switch`, after its attributes.
 #[tactic(auto, using(crate::proofs::Switches::switches))]
 #[inline(never)]
 #[cycle(statement)]

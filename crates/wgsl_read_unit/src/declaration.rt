@@ -40,7 +40,7 @@ const ATTRIBUTED_DECLARATION: Expected = Expected::OneOf(&[
     TokenKind::KwVar,
 ]);
 
-/// A declaration with its `;`, if it has one, and where it is, its attributes included (WGSL,
+/// Reads a declaration with its `;`, if it has one, and where it is, its attributes included (WGSL,
 /// "WGSL Module"). An empty one has no attributes.
 pub fn parse_global_declaration(
     alloc: Global,
@@ -57,7 +57,7 @@ pub fn parse_global_declaration(
     parse_declaration_after(alloc, tokens, attributes, start)
 }
 
-/// A declaration after its attributes, and its place, which begins where they do.
+/// Reads a declaration after its attributes, and its place, which begins where they do.
 pub fn parse_declaration_after(
     alloc: Global,
     tokens: &mut Cursor,

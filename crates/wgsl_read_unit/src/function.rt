@@ -24,7 +24,7 @@ use wgsl_tree_attribute::Attributes;
 use wgsl_tree_expression::TypeExpression;
 use wgsl_tree_unit::{FormalParameter, Function, GlobalDeclaration};
 
-/// A function after its attributes.
+/// Reads a function after its attributes.
 pub fn parse_function_part(
     alloc: Global,
     tokens: &mut Cursor,

@@ -20,8 +20,8 @@ use wgsl_read_cursor::{Cursor, Fault};
 use wgsl_read_declaration::parse_directive_part;
 use wgsl_tree_unit::{GlobalDeclarationNode, GlobalDirective, TranslationUnit};
 
-/// A module: its directives, then its declarations. Whatever begins neither is left (WGSL, "WGSL
-/// Module").
+/// Reads a module: its directives, then its declarations. Whatever begins neither is left (WGSL,
+/// "WGSL Module").
 pub fn parse_translation_unit(alloc: Global, tokens: &mut Cursor) -> Result<TranslationUnit, Fault>
     ensures { ParsesNullable unit_view result tokens.old tokens.new (reader (of unit)) }
 {

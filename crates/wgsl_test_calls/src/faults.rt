@@ -16,8 +16,8 @@ use std::borrow::CowStr;
 use wgsl_parse::error::{Error, ErrorKind};
 use wgsl_parse::parse_str;
 
-/// The fault that is named of a text; none where it is a module. The error is that memory was
-/// refused.
+/// Returns the fault that is named of a text; none where it is a module. The error is that an
+/// allocation failed.
 pub fn first_fault(alloc: Global, source: &str) -> Result<Option<Error>, AllocError>
     ensures named { IfOk result (λ found. MatchOption found
         ((unit : TranslationUnit) × IsUnit (chars source.now) unit)
@@ -34,7 +34,7 @@ pub fn first_fault(alloc: Global, source: &str) -> Result<Option<Error>, AllocEr
     Ok(Some(error))
 }
 
-/// Whether a text is a module.
+/// Returns whether a text is a module.
 pub fn is_module(alloc: Global, source: &str) -> Result<bool, AllocError>
     ensures yes { IfOk result (λ is. is ≡ true
         → (unit : TranslationUnit) × IsUnit (chars source.now) unit) }
@@ -44,7 +44,7 @@ pub fn is_module(alloc: Global, source: &str) -> Result<bool, AllocError>
     Ok(first_fault(alloc, source)?.is_none())
 }
 
-/// A message with its line and column, the line of the source, and carets below the span.
+/// Returns a message with its line and column, the line of the source, and carets below the span.
 pub fn snippet_of(alloc: Global, source: &str, error: Error) -> Result<String, AllocError>
     ensures { IfOk result (λ text. string_bytes text
         ≡ snippet (print_error_kind error.error) (chars source.now) (span_view error.span)) }
@@ -53,8 +53,8 @@ pub fn snippet_of(alloc: Global, source: &str, error: Error) -> Result<String, A
     error.to_string(alloc)
 }
 
-/// A message with the name of a file, as compilers print it, the line of the source, and carets
-/// below the span.
+/// Returns a message with the name of a file, as compilers print it, the line of the source, and
+/// carets below the span.
 pub fn lines_of(
     alloc: Global,
     name: &str,

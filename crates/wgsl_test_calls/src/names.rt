@@ -14,7 +14,7 @@ use wgsl_parse::error::Error;
 use wgsl_parse::parse_str;
 use wgsl_parse::syntax::{GlobalDeclaration, GlobalDeclarationNode};
 
-/// The names of the functions of a module, in their order.
+/// Returns the names of the functions of a module, in their order.
 pub fn function_names(alloc: Global, source: &str) -> Result<Vec<String>, Error>
     ensures names { IfOk result (λ names. (unit : plain.TranslationUnit)
         × IsUnit (chars source.now) unit × (map string_bytes names.items ≡ names_of unit)) }

@@ -18,7 +18,7 @@ use wgsl_parse::lexer::TokenIterator;
 use wgsl_parse::parser::{ExpressionParser, FromSource, nesting};
 use wgsl_parse::syntax::{Expression, Ident, TypeAlias, TypeExpression};
 
-/// Whether a text nests no deeper than a limit, so that a stack of a known size bears it.
+/// Returns whether a text nests no deeper than a limit, so that a stack of a known size bears it.
 pub fn nests_within(alloc: Global, source: &str, limit: usize) -> Result<bool, Error>
     ensures { IfOk result (λ fits. (ts : List grammar.Token) × (e : Ending)
         × IsTokenList (chars source.now) ts e × (IsTrue fits ↔ (nesting ts ≤ limit))) }
@@ -26,7 +26,7 @@ pub fn nests_within(alloc: Global, source: &str, limit: usize) -> Result<bool, E
     Ok(nesting(alloc, source)? <= limit)
 }
 
-/// The expression that a text is.
+/// Reads the expression that a text is.
 pub fn expression_of(alloc: Global, source: &str) -> Result<Expression, Error>
     ensures { IsRead expression (λ e. (s : grammar.Span) × IsTreeOf expression (chars source.now)
         (expression_node (expression_view e) s)) source.now result }
@@ -34,7 +34,7 @@ pub fn expression_of(alloc: Global, source: &str) -> Result<Expression, Error>
     Expression::from_str(alloc, source)
 }
 
-/// The expression that the tokens of an iterator are, a `Lexer` for one.
+/// Reads the expression that the tokens of an iterator are, a `Lexer` for one.
 pub fn expression_of_tokens<T: TokenIterator>(alloc: Global, tokens: T) -> Result<Expression, Error>
     ensures { IsParsed expression (λ e found. (s : grammar.Span)
         × Derived expression (expression_node (expression_view e) s) found)
@@ -43,7 +43,7 @@ pub fn expression_of_tokens<T: TokenIterator>(alloc: Global, tokens: T) -> Resul
     ExpressionParser::new().parse(alloc, tokens)
 }
 
-/// `alias NAME = TYPE;`, from a tree that is made by hand.
+/// Returns `alias NAME = TYPE;`, from a tree that is made by hand.
 pub fn alias_text(alloc: Global, name: String, ty: String) -> Result<String, AllocError>
     ensures { IfOk result (λ text. string_bytes text ≡ codes "alias " ++ string_bytes name
         ++ codes " = " ++ string_bytes ty ++ codes ";") }

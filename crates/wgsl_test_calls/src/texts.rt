@@ -15,7 +15,7 @@ use wgsl_parse::error::Error;
 use wgsl_parse::parse_str;
 use wgsl_parse::tidy::{Indent, Layout, Newlines, tidy, tidy_with};
 
-/// The canonical text of a module.
+/// Returns the canonical text of a module.
 pub fn formatted(alloc: Global, source: &str) -> Result<String, Error>
     ensures printed { IfOk result (λ text. (unit : TranslationUnit)
         × IsUnit (chars source.now) unit × (string_bytes text ≡ print_unit unit)) }
@@ -26,7 +26,7 @@ pub fn formatted(alloc: Global, source: &str) -> Result<String, Error>
     Ok(unit.to_string(alloc)?)
 }
 
-/// A module formatted for people, with its comments.
+/// Returns a module formatted for people, with its comments.
 pub fn laid_out(alloc: Global, source: &str) -> Result<String, Error>
     ensures kept { IfOk result (λ text.
         Keeps standard (chars source.now) (chars (string_bytes text))) }
@@ -36,7 +36,8 @@ pub fn laid_out(alloc: Global, source: &str) -> Result<String, Error>
     tidy(alloc, source)
 }
 
-/// The same with lines of at most `width` columns, a tab of eight columns for each level, and CR LF.
+/// Returns a module formatted for people, with its comments, with lines of at most `width` columns,
+/// a tab of eight columns for each level, and CR LF.
 pub fn laid_out_with_tabs(alloc: Global, source: &str, width: usize) -> Result<String, Error>
     ensures kept { IfOk result (λ text.
         Keeps (record { width = width; tabs = true; indent = 8; newlines = crlf })

@@ -5,7 +5,7 @@ ghost use Rattle.std.specs.Prelude.{ℕ, List};
 use std::alloc::Global;
 use wgsl_files::{Format, FormatError};
 
-/// Texts end with an LF.
+/// The format of texts that end with an LF.
 #[derive(Clone, Copy)]
 pub struct Ended;
 

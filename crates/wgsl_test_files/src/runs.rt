@@ -18,7 +18,7 @@ fn store(alloc: Global) -> Result<MemoryStore, AllocError> {
     store_of(alloc, &FILES)
 }
 
-/// Files with these paths and texts.
+/// Returns files with these paths and texts.
 pub fn store_of(alloc: Global, texts: &[(&str, &str)]) -> Result<MemoryStore, AllocError> {
     let mut files = BTreeMap::new(alloc);
     for (path, text) in texts {
@@ -28,7 +28,7 @@ pub fn store_of(alloc: Global, texts: &[(&str, &str)]) -> Result<MemoryStore, Al
     Ok(MemoryStore { files })
 }
 
-/// What a run leaves: its status, and what it wrote.
+/// The status of a run, and what it wrote.
 #[derive(Drop)]
 pub struct Run {
     status: u8,
@@ -65,14 +65,14 @@ pub fn run_of(
     })
 }
 
-/// Whether a run ends so.
+/// Returns whether a run ends so.
 pub fn is_run(run: &Run, status: u8, output: &str, errors: &str) -> bool {
     run.status == status
         && run.output.as_slice() == output.as_bytes()
         && run.errors.as_slice() == errors.as_bytes()
 }
 
-/// Whether the file at a path has this text.
+/// Returns whether the file at a path has this text.
 pub fn has(store: &MemoryStore, path: &str, text: &str) -> bool {
     match store.files.get(path) {
         Some(bytes) => bytes.as_slice() == text.as_bytes(),

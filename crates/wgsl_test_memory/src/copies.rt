@@ -6,7 +6,7 @@ use crate::{nodes, statements};
 use std::borrow::CowStr;
 use wgsl_parse::parse_str;
 
-/// Makes a call that copies, and tells whether there is one with this name.
+/// Makes a call that copies, and returns whether there is one with this name.
 pub fn make_call<R: Print + AllocGlobal>(line: &mut Line<'_, R>, call: &str, text: &str) -> bool {
     match call {
         "TranslationUnit::clone" => {

@@ -7,8 +7,8 @@ use std::{fmt, io};
 use wgsl_parse::FromSource;
 use wgsl_parse::span::CloneWith;
 
-/// Prints what calls return, each answer with a tab after it. Once a print fails, or memory is
-/// refused to what a call is given, no more calls are made and nothing more is printed.
+/// A line that prints what calls return, each answer with a tab after it. Once a print fails, or an
+/// allocation fails to what a call is given, no more calls are made and nothing more is printed.
 #[derive(Drop)]
 pub struct Line<'r, R> {
     rt: &'r R,
@@ -16,15 +16,17 @@ pub struct Line<'r, R> {
 }
 
 impl<'r, R: Print + AllocGlobal> Line<'r, R> {
+    /// Returns a line on which nothing is printed yet.
     pub fn new(rt: &'r R) -> Line<'r, R> {
         Line { rt, failure: None }
     }
 
+    /// Returns the allocator of the program.
     pub fn alloc(&self) -> Global {
         self.rt.alloc()
     }
 
-    /// Ends the line, or tells what failed.
+    /// Ends the line, or returns what failed.
     pub fn end(self) -> io::Result<()> {
         match self.failure {
             Some(kind) => Err(io::Error::from(kind)),
@@ -46,7 +48,7 @@ impl<'r, R: Print + AllocGlobal> Line<'r, R> {
         }
     }
 
-    /// What a call is given, unless an allocation fails to it or the text has none.
+    /// Returns what a call is given, unless an allocation fails to it or the text has none.
     pub fn given<T: Drop, E: Refusal>(&mut self, given: Result<T, E>) -> Option<T> {
         match given {
             Ok(value) => Some(value),
@@ -59,7 +61,7 @@ impl<'r, R: Print + AllocGlobal> Line<'r, R> {
         }
     }
 
-    /// The tree of a text, if it has one.
+    /// Reads the tree of a text, if it has one.
     pub fn tree<T: FromSource + Drop>(&mut self, text: &str) -> Option<T> {
         let tree = T::from_str(self.alloc(), text);
         self.given(tree)
@@ -81,7 +83,7 @@ impl<'r, R: Print + AllocGlobal> Line<'r, R> {
         }
     }
 
-    /// Prints an answer, and tells whether it is a failed allocation.
+    /// Prints an answer, and returns whether it is a failed allocation.
     pub fn is_refused<T: fmt::Debug + Drop, E: Refusal>(&mut self, answer: Result<T, E>) -> bool {
         let is_refused = answer
             .as_ref()
@@ -106,7 +108,8 @@ impl<'r, R: Print + AllocGlobal> Line<'r, R> {
         }
     }
 
-    /// The same of the copy of a node. The `clone` of a node calls nothing but its `clone_with`.
+    /// Prints a copy of a node; after a failed allocation it is made again. The `clone` of a node
+    /// calls nothing but its `clone_with`.
     pub fn copy<T: CloneWith + fmt::Debug>(&mut self, node: &T) {
         let alloc = self.alloc();
         if self.failure.is_none() && self.is_refused(node.clone_with(alloc)) {

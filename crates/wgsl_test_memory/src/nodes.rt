@@ -11,7 +11,7 @@ use wgsl_parse::syntax::{
     TranslationUnit, TypeExpression,
 };
 
-/// A module, its directives and its declarations.
+/// Copies a module, its directives and its declarations.
 pub fn copy_unit<R: Print + AllocGlobal>(line: &mut Line<'_, R>, unit: &TranslationUnit) {
     line.copy(unit);
     for directive in &unit.global_directives {
@@ -23,13 +23,13 @@ pub fn copy_unit<R: Print + AllocGlobal>(line: &mut Line<'_, R>, unit: &Translat
     }
 }
 
-/// A directive.
+/// Copies a directive.
 pub fn copy_directive<R: Print + AllocGlobal>(line: &mut Line<'_, R>, node: &GlobalDirective) {
     line.copy(node);
     copy_in_global_directive(line, node);
 }
 
-/// A declaration of a module, with its members or the statements of its body.
+/// Copies a declaration of a module, with its members or the statements of its body.
 pub fn copy_declaration<R: Print + AllocGlobal>(line: &mut Line<'_, R>, node: &GlobalDeclaration) {
     line.copy(node);
     copy_in_global_declaration(line, node);
@@ -61,7 +61,7 @@ fn copy_parts_of_function<R: Print + AllocGlobal>(line: &mut Line<'_, R>, node: 
     copy_block(line, &node.body);
 }
 
-/// The attributes of a list.
+/// Copies the attributes of a list.
 pub fn copy_attributes<R: Print + AllocGlobal>(line: &mut Line<'_, R>, nodes: &[AttributeNode]) {
     for node in nodes {
         line.copy(node.node());
@@ -69,7 +69,7 @@ pub fn copy_attributes<R: Print + AllocGlobal>(line: &mut Line<'_, R>, nodes: &[
     }
 }
 
-/// An expression.
+/// Copies an expression.
 pub fn copy_expression<R: Print + AllocGlobal>(line: &mut Line<'_, R>, node: &Expression) {
     line.copy(node);
     copy_in_expression(line, node);
@@ -78,7 +78,7 @@ pub fn copy_expression<R: Print + AllocGlobal>(line: &mut Line<'_, R>, node: &Ex
     }
 }
 
-/// A type with its parts.
+/// Copies a type with its parts.
 pub fn copy_type<R: Print + AllocGlobal>(line: &mut Line<'_, R>, node: &TypeExpression) {
     line.copy(node);
     copy_parts_of_type(line, node);

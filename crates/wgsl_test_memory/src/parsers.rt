@@ -20,7 +20,7 @@ macro_rules! parse {
     }};
 }
 
-/// Makes a call that reads a text or its tokens, and tells whether there is one with this name.
+/// Makes a call that reads a text or its tokens, and returns whether there is one with this name.
 pub fn make_call<R: Print + AllocGlobal>(line: &mut Line<'_, R>, call: &str, text: &str) -> bool {
     let alloc = line.alloc();
     match call {

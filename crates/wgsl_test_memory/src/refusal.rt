@@ -5,8 +5,9 @@ use std::fmt;
 use wgsl_parse::error::{Error, ErrorKind, ParseError};
 use wgsl_parse::syntax::ModulePathParseError;
 
-/// Why a call gives nothing.
+/// The reason why a call gives nothing.
 pub trait Refusal: fmt::Debug + Drop {
+    /// Returns whether the reason is that an allocation failed.
     fn is_want_of_memory(&self) -> bool;
 }
 

@@ -7,7 +7,7 @@ use wgsl_parse::syntax::{
     CompoundStatement, Declaration, IfStatement, LoopStatement, Statement, SwitchStatement,
 };
 
-/// A block and its statements.
+/// Copies a block and its statements.
 pub fn copy_block<R: Print + AllocGlobal>(line: &mut Line<'_, R>, node: &CompoundStatement) {
     line.copy(node);
     for statement in &node.statements {
@@ -15,7 +15,7 @@ pub fn copy_block<R: Print + AllocGlobal>(line: &mut Line<'_, R>, node: &Compoun
     }
 }
 
-/// The parts of the declaration of a value.
+/// Copies the parts of the declaration of a value.
 pub fn copy_parts_of_declaration<R: Print + AllocGlobal>(
     line: &mut Line<'_, R>,
     node: &Declaration,
@@ -29,7 +29,7 @@ pub fn copy_parts_of_declaration<R: Print + AllocGlobal>(
     }
 }
 
-/// A statement, with its parts that no other has.
+/// Copies a statement, with its parts that no other has.
 pub fn copy_statement<R: Print + AllocGlobal>(line: &mut Line<'_, R>, node: &Statement) {
     line.copy(node);
     copy_in_statement(line, node);

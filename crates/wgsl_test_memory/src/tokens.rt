@@ -7,7 +7,7 @@ use std::fmt;
 use wgsl_parse::error::ParseError;
 use wgsl_parse::lexer::{Lexer, Templates, Token, TokenItem, discover};
 
-/// Makes a call on tokens, and tells whether there is one with this name.
+/// Makes a call on tokens, and returns whether there is one with this name.
 pub fn make_call<R: Print + AllocGlobal>(line: &mut Line<'_, R>, call: &str, text: &str) -> bool {
     match call {
         "Templates::clone" => copy_lists(line, text),

@@ -8,7 +8,7 @@ use wgsl_parse::syntax::{
     Spanned, TranslationUnit,
 };
 
-/// Makes a call on values, and tells whether there is one with this name.
+/// Makes a call on values, and returns whether there is one with this name.
 pub fn make_call<R: Print + AllocGlobal>(line: &mut Line<'_, R>, call: &str, text: &str) -> bool {
     let alloc = line.alloc();
     match call {

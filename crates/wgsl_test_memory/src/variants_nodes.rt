@@ -3,7 +3,7 @@
 use crate::line::Line;
 use wgsl_parse::syntax::{Attribute, Expression, GlobalDeclaration, GlobalDirective, Statement};
 
-/// What a node of `GlobalDirective` holds, if that is a node without a span.
+/// Copies what a node of `GlobalDirective` holds, if that is a node without a span.
 pub fn copy_in_global_directive<R: Print + AllocGlobal>(
     line: &mut Line<'_, R>,
     node: &GlobalDirective,
@@ -15,7 +15,7 @@ pub fn copy_in_global_directive<R: Print + AllocGlobal>(
     }
 }
 
-/// What a node of `GlobalDeclaration` holds, if that is a node without a span.
+/// Copies what a node of `GlobalDeclaration` holds, if that is a node without a span.
 pub fn copy_in_global_declaration<R: Print + AllocGlobal>(
     line: &mut Line<'_, R>,
     node: &GlobalDeclaration,
@@ -30,7 +30,7 @@ pub fn copy_in_global_declaration<R: Print + AllocGlobal>(
     }
 }
 
-/// What a node of `Expression` holds, if that is a node without a span.
+/// Copies what a node of `Expression` holds, if that is a node without a span.
 pub fn copy_in_expression<R: Print + AllocGlobal>(line: &mut Line<'_, R>, node: &Expression) {
     match node {
         Expression::Literal(inner) => line.copy(inner),
@@ -44,7 +44,7 @@ pub fn copy_in_expression<R: Print + AllocGlobal>(line: &mut Line<'_, R>, node: 
     }
 }
 
-/// What a node of `Statement` holds, if that is a node without a span.
+/// Copies what a node of `Statement` holds, if that is a node without a span.
 pub fn copy_in_statement<R: Print + AllocGlobal>(line: &mut Line<'_, R>, node: &Statement) {
     match node {
         Statement::Compound(inner) => line.copy(inner),
@@ -67,7 +67,7 @@ pub fn copy_in_statement<R: Print + AllocGlobal>(line: &mut Line<'_, R>, node: &
     }
 }
 
-/// What a node of `Attribute` holds, if that is a node without a span.
+/// Copies what a node of `Attribute` holds, if that is a node without a span.
 pub fn copy_in_attribute<R: Print + AllocGlobal>(line: &mut Line<'_, R>, node: &Attribute) {
     match node {
         Attribute::Diagnostic(inner) => line.copy(inner),

@@ -15,7 +15,7 @@ use crate::tokens::{see_list, see_tokens};
 use std::alloc::{AllocError, Global};
 use wgsl_read_dialect::recognize_str;
 
-/// What is wrong with a row; nothing where it holds.
+/// Returns what is wrong with a row; nothing where it holds.
 pub fn report_of(alloc: Global, row: &Row<'_>) -> Result<String, AllocError> {
     let mut facts = Facts::new(alloc, row);
     if let Some(read) = row.fields.first() {

@@ -4,7 +4,7 @@ use crate::facts::Facts;
 use std::alloc::{AllocError, Global};
 use wgsl_lexer::{Templates, discover};
 
-/// Where the lists of a text are, from the first to the last, and what it took to find them.
+/// Sees where the lists of a text are, from the first to the last, and what it took to find them.
 pub fn see_lists(text: &str, facts: &mut Facts<'_>) -> Result<(), AllocError> {
     let alloc = facts.alloc;
     let found = discover(alloc, text)?;

@@ -4,7 +4,7 @@ use crate::row::Row;
 use std::alloc::{AllocError, Global};
 use std::fmt;
 
-/// What is seen of the text of a row.
+/// The facts that are seen of the text of a row.
 #[derive(Drop)]
 pub struct Facts<'r> {
     pub alloc: Global,
@@ -16,6 +16,7 @@ pub struct Facts<'r> {
 }
 
 impl<'r> Facts<'r> {
+    /// Returns the facts of a row of whose text nothing is seen yet.
     pub fn new(alloc: Global, row: &'r Row<'r>) -> Facts<'r> {
         Facts {
             alloc,
@@ -25,12 +26,12 @@ impl<'r> Facts<'r> {
         }
     }
 
-    /// A fact that a row may ask for by these words.
+    /// Adds a fact that a row may ask for by these words.
     pub fn tell<T: fmt::Display>(&mut self, words: &str, fact: &T) -> Result<(), AllocError> {
         self.see(words, fact, false)
     }
 
-    /// A fact that each row has to ask for.
+    /// Adds a fact that each row has to ask for.
     pub fn answer<T: fmt::Display>(&mut self, words: &str, fact: &T) -> Result<(), AllocError> {
         self.see(words, fact, true)
     }
@@ -53,7 +54,7 @@ impl<'r> Facts<'r> {
         write!(self.report, "  got {words} {got:?}\n")
     }
 
-    /// Tells of something that has to hold of every text where it does not.
+    /// Reports what has to hold of every text where it does not.
     pub fn expect(&mut self, holds: bool, what: &str) -> Result<(), AllocError> {
         if holds {
             return Ok(());
@@ -72,7 +73,7 @@ impl<'r> Facts<'r> {
         self.expect(is_alike, "a copy is equal and prints alike")
     }
 
-    /// What is wrong with the row; nothing where it holds.
+    /// Returns what is wrong with the row; nothing where it holds.
     pub fn report(mut self) -> Result<String, AllocError> {
         let row = self.row;
         self.expect(row.is_written, "texts are written as texts are")?;

@@ -4,7 +4,7 @@ use std::alloc::Global;
 use std::io;
 use std::io::{ErrorKind, Read, Write};
 
-/// How a call fails.
+/// The way in which a call fails.
 #[derive(Clone, Copy, PartialEq, Eq)]
 pub enum Failure {
     /// By an error of the kind `Other`.
@@ -24,7 +24,7 @@ pub struct Calls {
 }
 
 impl Calls {
-    /// Calls that do not fail.
+    /// Returns calls that do not fail.
     pub fn new(bytes: usize) -> Calls {
         Calls {
             made: 0,
@@ -33,12 +33,12 @@ impl Calls {
         }
     }
 
-    /// Calls that do not fail, at which all bytes go.
+    /// Returns calls that do not fail, at which all bytes go.
     pub fn whole() -> Calls {
         Calls::new(usize::MAX)
     }
 
-    /// The same, of which one fails.
+    /// Returns the same calls, of which one fails.
     pub fn failing(self, call: usize, failure: Failure) -> Calls {
         Calls {
             fault: Some((call, failure)),
@@ -46,7 +46,7 @@ impl Calls {
         }
     }
 
-    /// Counts a call, and tells how it fails if it does.
+    /// Counts a call, and returns how it fails if it does.
     fn count(&mut self) -> Option<Failure> {
         let call = self.made;
         self.made = call.saturating_add(1);
@@ -57,7 +57,7 @@ impl Calls {
     }
 }
 
-/// Gives a text.
+/// A reader that gives a text.
 #[derive(Drop)]
 pub struct Source<'s> {
     pub calls: Calls,
@@ -65,6 +65,7 @@ pub struct Source<'s> {
 }
 
 impl<'s> Source<'s> {
+    /// Returns a reader that gives a text by these calls.
     pub fn new(text: &'s [u8], calls: Calls) -> Source<'s> {
         Source { calls, left: text }
     }
@@ -83,7 +84,7 @@ impl Read for Source<'_> {
     }
 }
 
-/// Takes a text.
+/// A writer that takes a text.
 #[derive(Drop)]
 pub struct Sink {
     pub calls: Calls,
@@ -91,6 +92,7 @@ pub struct Sink {
 }
 
 impl Sink {
+    /// Returns a writer that takes a text by these calls.
     pub fn new(alloc: Global, calls: Calls) -> Sink {
         Sink {
             calls,

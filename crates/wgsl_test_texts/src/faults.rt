@@ -6,7 +6,7 @@ use std::alloc::{AllocError, Global};
 use wgsl_error::{Error, ErrorKind};
 use wgsl_span::Span;
 
-/// What is wrong with a text, and its snippet.
+/// Sees what is wrong with a text, and its snippet.
 pub fn see_fault(error: Error, text: &str, facts: &mut Facts<'_>) -> Result<(), AllocError> {
     let alloc = facts.alloc;
     let Span { start, end } = error.span;

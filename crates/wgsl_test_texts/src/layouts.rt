@@ -5,7 +5,7 @@ use crate::faults::see_fault;
 use std::alloc::AllocError;
 use wgsl_format::{Indent, Layout, Newlines, tidy_with};
 
-/// What a text is formatted as with a layout, and that this is formatted already.
+/// Sees what a text is formatted as with a layout, and that this is formatted already.
 pub fn see_layout(text: &str, words: &str, facts: &mut Facts<'_>) -> Result<(), AllocError> {
     let Some(layout) = layout_of(words) else {
         return facts.expect(

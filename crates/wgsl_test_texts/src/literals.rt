@@ -7,7 +7,7 @@ use wgsl_lexer::Lexer;
 use wgsl_parser::LiteralParser;
 use wgsl_tree_expression::LiteralExpression;
 
-/// The literal of a text, or what is wrong with the text.
+/// Sees the literal of a text, or what is wrong with the text.
 pub fn see_literal(text: &str, facts: &mut Facts<'_>) -> Result<(), AllocError> {
     let alloc = facts.alloc;
     match LiteralParser::new().parse(alloc, Lexer::new(alloc, text)?) {

@@ -4,7 +4,7 @@ use crate::facts::Facts;
 use std::alloc::{AllocError, Global};
 use wgsl_tree_path::{ModulePath, PathOrigin};
 
-/// The path of a text, or why the text is none.
+/// Sees the path of a text, or why the text is not one.
 pub fn see_path(text: &str, facts: &mut Facts<'_>) -> Result<(), AllocError> {
     let alloc = facts.alloc;
     match ModulePath::from_str(alloc, text) {

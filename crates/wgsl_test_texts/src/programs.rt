@@ -14,7 +14,7 @@ pub enum Call {
 }
 
 impl Call {
-    /// The call that a row names, with a number of arguments.
+    /// Returns the call that a row names, with a number of arguments.
     pub fn named(name: &str, arguments: usize) -> Option<Call> {
         match name {
             "wgslfmt" => Some(Call::StartWgslfmt(arguments)),
@@ -23,7 +23,7 @@ impl Call {
         }
     }
 
-    /// The call `run` that does the same as `start_keeping`, if there is one.
+    /// Returns the call `run` that does the same as `start_keeping`, if there is one.
     pub fn run(self) -> Option<Call> {
         match self {
             Call::StartWgslfmt(0) => Some(Call::RunWgslfmt),
@@ -31,7 +31,7 @@ impl Call {
         }
     }
 
-    /// Makes it, and returns the status.
+    /// Makes the call, and returns the status.
     pub fn status<R: Read, W: Write, E: Write>(
         self,
         alloc: Global,

@@ -24,7 +24,7 @@ pub struct Row<'f> {
 }
 
 impl<'f> Row<'f> {
-    /// The row that is in a block of lines.
+    /// Returns the row that is in a block of lines.
     pub fn of_block(alloc: Global, block: &'f str) -> Result<Row<'f>, AllocError> {
         let mut row = Row {
             alloc,
@@ -55,7 +55,7 @@ impl<'f> Row<'f> {
         }
     }
 
-    /// Puts a value after words, or after the last value and a line end where there are none.
+    /// Puts a value after words, or after the last value and a line break where there are none.
     fn put(&mut self, words: &'f str, value: &[u8]) -> Result<(), AllocError> {
         match self.fields.last_mut() {
             Some(last) if words.is_empty() => {
@@ -69,7 +69,7 @@ impl<'f> Row<'f> {
         }
     }
 
-    /// What is wanted under these words.
+    /// Returns what is wanted under these words.
     pub fn wanted(&self, words: &str) -> Option<&[u8]> {
         let mut wanted = self.fields.iter().skip(1);
         let field = wanted.find(|field| field.words == words)?;

@@ -6,8 +6,8 @@ use std::borrow::CowStr;
 use wgsl_error::{Error, ErrorKind};
 use wgsl_span::Span;
 
-/// The snippet of an error in its text, which is that of its copy too; and the error as it is
-/// printed for a file of this text.
+/// Returns the snippet of an error in its text, which is that of its copy too; and sees the error
+/// as it is printed for a file of this text.
 pub fn snippet_of(error: Error, text: &str, facts: &mut Facts<'_>) -> Result<String, AllocError> {
     facts.tell("named", &error.in_file("a.wgsl", text))?;
     let error = error.with_source(CowStr::Borrowed(text));
@@ -16,7 +16,7 @@ pub fn snippet_of(error: Error, text: &str, facts: &mut Facts<'_>) -> Result<Str
     Ok(snippet)
 }
 
-/// The snippet of an invalid token at the places `START..END` of a text.
+/// Sees the snippet of an invalid token at the places `START..END` of a text.
 pub fn see_snippet(text: &str, places: &str, facts: &mut Facts<'_>) -> Result<(), AllocError> {
     let Some(span) = span_of(places) else {
         return facts.expect(false, "a snippet has a span");

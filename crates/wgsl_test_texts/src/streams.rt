@@ -122,7 +122,7 @@ impl Case<'_> {
     }
 }
 
-/// What a program returns and writes by a call, and by `run` where that does the same.
+/// Sees what a program returns and writes by a call, and by `run` where that does the same.
 pub fn see_call(call: Call, source: &[u8], facts: &mut Facts<'_>) -> Result<(), AllocError> {
     let alloc = facts.alloc;
     let case = Case {

@@ -27,7 +27,7 @@ struct Pieces {
     whole: Vec<u8>,
 }
 
-/// The text of a line after its first quote, if it is written as texts are.
+/// Returns the text of a line after its first quote, if it is written as texts are.
 pub fn text_after_quote(alloc: Global, text: &str) -> Result<Option<Vec<u8>>, AllocError> {
     let mut pieces = Pieces {
         place: Place::Inside,

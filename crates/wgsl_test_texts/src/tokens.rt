@@ -26,7 +26,7 @@ fn lines_of(alloc: Global, lexer: Lexer<'_>) -> Result<String, AllocError> {
     Ok(lines)
 }
 
-/// The tokens of a text; copies of a lexer give what is left, and nothing follows the end.
+/// Sees the tokens of a text; copies of a lexer give what is left, and nothing follows the end.
 pub fn see_tokens(text: &str, facts: &mut Facts<'_>) -> Result<(), AllocError> {
     let alloc = facts.alloc;
     let mut lexer = Lexer::new(alloc, text)?;
@@ -46,7 +46,7 @@ pub fn see_tokens(text: &str, facts: &mut Facts<'_>) -> Result<(), AllocError> {
     facts.answer("items", &whole.trim_end())
 }
 
-/// Whether the tokens of a text are a list of expressions.
+/// Sees whether the tokens of a text are a list of expressions.
 pub fn see_list(text: &str, facts: &mut Facts<'_>) -> Result<(), AllocError> {
     let alloc = facts.alloc;
     let mut kinds = Vec::new(alloc);

@@ -28,7 +28,7 @@ fn block(alloc: Global, statement: Statement) -> Result<CompoundStatement, Alloc
     Ok(block)
 }
 
-/// A loop whose block calls a name with a line end.
+/// A loop whose block calls a name with a line break.
 fn repeat(alloc: Global) -> Result<Statement, AllocError> {
     Ok(Statement::from(WhileStatement {
         attributes: Vec::new(alloc),
@@ -37,7 +37,7 @@ fn repeat(alloc: Global) -> Result<Statement, AllocError> {
     }))
 }
 
-/// A structure with a member whose name has a line end.
+/// A structure with a member whose name has a line break.
 fn structure(alloc: Global) -> Result<Struct, AllocError> {
     let mut structure = Struct::new(alloc, ident(alloc, "S")?);
     let member = StructMember::new(alloc, ident(alloc, "b\nc")?, ty(alloc, "T")?);

@@ -7,7 +7,7 @@ use std::alloc::{AllocError, Global};
 use std::cell::Cell;
 use wgsl_parse::lexer::{FiniteTokens, Lexer, TokenItem};
 
-/// Gives the tokens of a text, and tells if it is asked after an error.
+/// Gives the tokens of a text, and reports if it is asked after an error.
 #[derive(Drop)]
 pub(crate) struct Watched<'w> {
     tokens: Lexer<'w>,
