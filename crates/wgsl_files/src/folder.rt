@@ -7,7 +7,7 @@ ghost use Rattle.wgsl_files.specs.Folders.{is_below, is_wgsl_below, is_listed_be
 use std::alloc::{AllocError, Global};
 
 /// A list of this path alone.
-pub fn alone(alloc: Global, path: &str) -> Result<Vec<String>, AllocError>
+pub fn single(alloc: Global, path: &str) -> Result<Vec<String>, AllocError>
     ensures { IfOk result (λ paths. map string_bytes paths.items ≡ path.now ∷ []) }
 {
     let mut paths = Vec::new(alloc);

@@ -2,7 +2,7 @@
 
 ghost use Rattle.wgsl_files.specs.Files.{unknown};
 
-use crate::folder::{alone, folder_of};
+use crate::folder::{folder_of, single};
 use crate::store::{Store, StoreError};
 use crate::walk::below;
 use std::alloc::{AllocError, Global};
@@ -27,7 +27,7 @@ impl<'a, R: Files + AllocGlobal + Clone + Drop> Store for HostStore<'a, R> {
     fn list(&self, alloc: Global, path: &str) -> Result<Vec<String>, StoreError> {
         match std::fs::metadata(self.rt, path) {
             Ok(metadata) if metadata.is_dir() => below(self.rt, alloc, folder_of(path)),
-            _ => Ok(alone(alloc, path)?),
+            _ => Ok(single(alloc, path)?),
         }
     }
 

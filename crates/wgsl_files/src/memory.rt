@@ -9,7 +9,7 @@ ghost use Rattle.wgsl_files.specs.Folders.{IsListing, is_below, is_wgsl_below};
 ghost use Rattle.wgsl_files.specs.Memory.{files_of};
 ghost use Rattle.wgsl_files.specs.Reading.{IsMissing};
 
-use crate::folder::{alone, folder_of, is_below, is_wgsl_below};
+use crate::folder::{folder_of, is_below, is_wgsl_below, single};
 use crate::store::{Store, StoreError};
 use std::alloc::{AllocError, Global};
 use std::collections::BTreeMap;
@@ -35,7 +35,7 @@ impl Store for MemoryStore {
         if has_below(&self.files, folder) {
             Ok(wgsl_below(alloc, &self.files, folder)?)
         } else {
-            Ok(alone(alloc, path)?)
+            Ok(single(alloc, path)?)
         }
     }
 

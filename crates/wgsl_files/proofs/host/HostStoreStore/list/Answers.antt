@@ -6,6 +6,6 @@ pub returns-in-Ok : goal.returns-in-Ok
 returns-in-Ok g c =
     record { listing = unknown_below c.args.path.now c.below.result (search rules) c.below.ensures.ordered }
 
-pub returns-in_ok-alone-in_default : goal.returns-in_ok-alone-in_default
-returns-in_ok-alone-in_default g c =
-    record { listing = unknown_file c.args.path.now _ c.in_ok-alone-in_default.ensures }
+pub returns-in_ok-single-in_default : goal.returns-in_ok-single-in_default
+returns-in_ok-single-in_default g c =
+    record { listing = unknown_file c.args.path.now _ c.in_ok-single-in_default.ensures }
