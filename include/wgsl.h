@@ -23,12 +23,12 @@
  * as its brackets, blocks, template lists and prefix operators do, and each takes stack while the
  * text is read: as measured over wgsl_recognize, wgsl_check, wgsl_format and wgsl_tree, at most
  * 2,750 bytes for a block with its statement and 1,200 for each other, and in wgsl_tidy 1,250 for
- * each. wgsl_nesting tells beforehand how deep a text nests, and takes no such stack. In wgsl_print
+ * each. wgsl_nesting returns how deep a text nests, and takes no such stack. In wgsl_print
  * each node inside another takes at most 5,700 bytes for a block with its statement and 2,300 for
  * each other. A left operand, and what is before a component or an index, takes none.
  *
  * Memory. While it runs, a call takes memory by the program's malloc, realloc and free, and gives
- * all of it back before it returns. Where they refuse, the status is WGSL_OUT_OF_MEMORY. The three
+ * all of it back before it returns. Where they fail, the status is WGSL_OUT_OF_MEMORY. The three
  * belong to one allocator, and align a block to each power of two up to 16 that divides its size.
  *
  * Threads. Any thread may make any call, at the same time as others. No call is made from a signal
@@ -44,7 +44,7 @@
 extern "C" {
 #endif
 
-/* What a call returns. */
+/* The status of a call. */
 enum wgsl_status {
     /* The call did what it is for. */
     WGSL_DONE = 0,
@@ -75,7 +75,7 @@ enum wgsl_fault {
     WGSL_UNEXPECTED_TOKEN = 3,
     /* The text ends too early: from the end of its last token to one byte after. */
     WGSL_UNEXPECTED_END = 4,
-    /* A severity that is none. */
+    /* A severity that is not one. */
     WGSL_DIAGNOSTIC_SEVERITY = 6,
     /* An attribute whose arguments do not fit. */
     WGSL_ATTRIBUTE = 7,
@@ -89,7 +89,7 @@ enum wgsl_fault {
 /* The message of each WGSL_INVALID_TOKEN, which expects nothing. */
 #define WGSL_INVALID_TOKEN_MESSAGE "invalid token"
 
-/* What a call returns beside its status. A number that does not go with the status is 0. */
+/* The result of a call beside its status. A number that does not go with the status is 0. */
 struct wgsl_answer {
     /* How many bytes or items there are to give, or the number that was asked for. */
     size_t size;
@@ -109,17 +109,17 @@ struct wgsl_token {
     size_t end;
 };
 
-/* Where something starts and ends. */
+/* The start and the end of a part of a text. */
 struct wgsl_place {
     size_t start;
     size_t end;
 };
 
-/* With what the lines of a formatted text end: with CR LF if the first line of its source does,
+/* The line breaks of a formatted text: CR LF if the first line of its source does,
  * otherwise with LF; with LF; with CR LF. */
 enum wgsl_newlines { WGSL_NEWLINES_AUTO = 0, WGSL_NEWLINES_LF = 1, WGSL_NEWLINES_CRLF = 2 };
 
-/* What is chosen of the layout of a formatted text. */
+/* The choices for the layout of a formatted text. */
 struct wgsl_layout {
     /* How many columns a line may have, or 0 if no line is broken for its length. */
     size_t width;
@@ -131,10 +131,11 @@ struct wgsl_layout {
     uint8_t newlines;
 };
 
-/* Lines of up to 100 columns, four spaces a level, and the line ends of the source. */
+/* The standard layout: lines of up to 100 columns, four spaces a level, and the line breaks of the
+ * source. */
 #define WGSL_STANDARD_LAYOUT { 100, 4, 0, WGSL_NEWLINES_AUTO }
 
-/* What a text may be the tree of, and what may be printed. */
+/* The kinds of trees that are read from a text, and of nodes that are printed. */
 enum wgsl_tree_kind {
     WGSL_UNIT = 0,
     WGSL_DIRECTIVE = 1,
@@ -270,21 +271,22 @@ uint32_t wgsl_c_nesting(const uint8_t *text, size_t size, struct wgsl_answer *an
 /* The most bytes that memory has. */
 #define WGSL_GREATEST (SIZE_MAX / 2)
 
-/* Whether a pointer and a number of items of a size are memory: some other than null, unless the
- * number is 0, and not too much. */
+/* Returns whether a pointer and a number of items of a size are memory: some other than null,
+ * unless the number is 0, and not too much. */
 static inline int wgsl_is_memory(const void *at, size_t count, size_t item) {
     return (at != NULL || count == 0) && count <= WGSL_GREATEST / item;
 }
 
-/* A pointer that is not null, for memory of no bytes too. It is aligned as every item needs. */
+/* Returns a pointer that is not null, for memory of no bytes too. It is aligned as every item
+ * needs. */
 static inline void *wgsl_at(const void *at) {
     static size_t nothing;
     return at != NULL ? (void *)(uintptr_t)at : (void *)&nothing;
 }
 
-/* The canonical text of a module, into the buffer: without comments, blank lines and the author's
- * line breaks, and with no byte 0 after it. Most texts fit where the buffer is half as large again
- * as the text. */
+/* Writes the canonical text of a module into the buffer: without comments, blank lines and the
+ * author's line breaks, and with no byte 0 after it. Most texts fit where the buffer is half as
+ * large again as the text. */
 static inline uint32_t wgsl_format(const char *text, size_t size, char *buffer, size_t buffer_size,
                                    struct wgsl_answer *answer) {
     if (!wgsl_is_memory(text, size, 1) || !wgsl_is_memory(buffer, buffer_size, 1)
@@ -295,9 +297,9 @@ static inline uint32_t wgsl_format(const char *text, size_t size, char *buffer, 
                          buffer_size, answer);
 }
 
-/* The formatted text of a module, with its comments, as wgsltidy writes it, into the buffer; by the
- * standard layout if the layout is null. Names are not checked, so a module with a name that this
- * library does not know is formatted too. */
+/* Writes the formatted text of a module, with its comments, as wgsltidy does, into the buffer; by
+ * the standard layout if the layout is null. Names are not checked, so a module with a name that
+ * this library does not know is formatted too. */
 static inline uint32_t wgsl_tidy(const struct wgsl_layout *layout, const char *text, size_t size,
                                  char *buffer, size_t buffer_size, struct wgsl_answer *answer) {
     static const struct wgsl_layout standard = WGSL_STANDARD_LAYOUT;
@@ -309,8 +311,8 @@ static inline uint32_t wgsl_tidy(const struct wgsl_layout *layout, const char *t
                        (uint8_t *)wgsl_at(buffer), buffer_size, answer);
 }
 
-/* Whether a text is a module: WGSL_DONE with the size 0, or WGSL_REFUSED. The buffer is for the
- * texts of the fault. */
+/* Checks whether a text is a module: WGSL_DONE with the size 0, or WGSL_REFUSED. The buffer is for
+ * the texts of the fault. */
 static inline uint32_t wgsl_check(const char *text, size_t size, char *buffer, size_t buffer_size,
                                   struct wgsl_answer *answer) {
     if (!wgsl_is_memory(text, size, 1) || !wgsl_is_memory(buffer, buffer_size, 1)
@@ -321,7 +323,7 @@ static inline uint32_t wgsl_check(const char *text, size_t size, char *buffer, s
                         buffer_size, answer);
 }
 
-/* Whether a text is a module of the smaller dialect in which names are identifiers alone and
+/* Checks whether a text is a module of the smaller dialect in which names are identifiers alone and
  * nothing is checked: as wgsl_check. */
 static inline uint32_t wgsl_recognize(const char *text, size_t size, char *buffer,
                                       size_t buffer_size, struct wgsl_answer *answer) {
@@ -333,9 +335,9 @@ static inline uint32_t wgsl_recognize(const char *text, size_t size, char *buffe
                             buffer_size, answer);
 }
 
-/* The tree of a kind (enum wgsl_tree_kind) that a text is, by its text form into the buffer: JSON,
- * with each field of each node and its place, as docs/TREE.md says, and no byte 0 after it.
- * WGSL_UNKNOWN where the kind is none. */
+/* Writes the tree of a kind (enum wgsl_tree_kind) that a text is, by its text form, into the
+ * buffer: JSON, with each field of each node and its place, as docs/TREE.md says, and no byte 0
+ * after it. WGSL_UNKNOWN where the kind is not one that wgsl_tree takes. */
 static inline uint32_t wgsl_tree(uint32_t kind, const char *text, size_t size, char *buffer,
                                  size_t buffer_size, struct wgsl_answer *answer) {
     if (!wgsl_is_memory(text, size, 1) || !wgsl_is_memory(buffer, buffer_size, 1)
@@ -346,11 +348,11 @@ static inline uint32_t wgsl_tree(uint32_t kind, const char *text, size_t size, c
                        buffer_size, answer);
 }
 
-/* The printed text of the node of a kind that a form describes, as wgsl_tree writes it and
- * docs/TREE.md says: exactly so, without blank space. The text does not depend on the spans, but
- * none of them may start after its end. Where the form is refused the answer has the place in the
- * form at which that shows, and the buffer has the message if it fits. WGSL_UNKNOWN where the kind
- * is none. */
+/* Writes the printed text of the node of a kind that a form describes into the buffer. The form is
+ * as wgsl_tree writes it and docs/TREE.md says: exactly so, without blank space. The text does not
+ * depend on the spans, but none of them may start after its end. Where the form is refused the
+ * answer has the place in the form at which that shows, and the buffer has the message if it fits.
+ * WGSL_UNKNOWN where the kind is not one of enum wgsl_tree_kind. */
 static inline uint32_t wgsl_print(uint32_t kind, const char *form, size_t size, char *buffer,
                                   size_t buffer_size, struct wgsl_answer *answer) {
     if (!wgsl_is_memory(form, size, 1) || !wgsl_is_memory(buffer, buffer_size, 1)
@@ -361,7 +363,7 @@ static inline uint32_t wgsl_print(uint32_t kind, const char *form, size_t size, 
                         buffer_size, answer);
 }
 
-/* The tokens of a text, into a buffer for tokens. WGSL_REFUSED where text that is no token
+/* Writes the tokens of a text into a buffer for tokens. WGSL_REFUSED where text that is no token
  * ends them: the answer has its place, and the tokens before it are in the buffer, `size` of them.
  * Where the buffer is too small it holds the first ones. */
 static inline uint32_t wgsl_tokens(const char *text, size_t size, struct wgsl_token *buffer,
@@ -374,7 +376,7 @@ static inline uint32_t wgsl_tokens(const char *text, size_t size, struct wgsl_to
                          buffer_size, answer);
 }
 
-/* The template lists of a text, into a buffer for places: each from its `<` to after its `>`,
+/* Writes the template lists of a text into a buffer for places: each from its `<` to after its `>`,
  * in the order of their starts. They are found in comments too. Where the buffer is too small it
  * holds the first ones. */
 static inline uint32_t wgsl_template_lists(const char *text, size_t size, struct wgsl_place *buffer,
@@ -387,8 +389,8 @@ static inline uint32_t wgsl_template_lists(const char *text, size_t size, struct
                         buffer_size, answer);
 }
 
-/* Whether a text begins with a template list, after blank space and comments: `size` is 1 where it
- * does, and else 0. */
+/* Checks whether a text begins with a template list, after blank space and comments: `size` is 1
+ * where it does, and else 0. */
 static inline uint32_t wgsl_begins_with_template_list(const char *text, size_t size,
                                                       struct wgsl_answer *answer) {
     if (!wgsl_is_memory(text, size, 1) || answer == NULL) {
@@ -397,8 +399,8 @@ static inline uint32_t wgsl_begins_with_template_list(const char *text, size_t s
     return wgsl_c_begins_with_list((const uint8_t *)wgsl_at(text), size, answer);
 }
 
-/* The greatest number of brackets, blocks, template lists and prefix operators that are open at one
- * place of a text, up to its first invalid token: `size`. */
+/* Gives as `size` the greatest number of brackets, blocks, template lists and prefix operators that
+ * are open at one place of a text, up to its first invalid token. */
 static inline uint32_t wgsl_nesting(const char *text, size_t size, struct wgsl_answer *answer) {
     if (!wgsl_is_memory(text, size, 1) || answer == NULL) {
         return WGSL_BAD_ARGUMENT;
@@ -406,8 +408,9 @@ static inline uint32_t wgsl_nesting(const char *text, size_t size, struct wgsl_a
     return wgsl_c_nesting((const uint8_t *)wgsl_at(text), size, answer);
 }
 
-/* The name of a kind of token, as the libraries for Rust and Rattle have it, such as "SymAnd" of
- * WGSL_SYM_AND, or null if the number is that of none. Written by tools/tables/tokens.py. */
+/* Returns the name of a kind of token, as the libraries for Rust and Rattle have it, such as
+ * "SymAnd" of WGSL_SYM_AND, or null if no kind has the number. Written by
+ * tools/tables/tokens.py. */
 static inline const char *wgsl_token_kind_name(size_t kind) {
     static const char *const names[] = {
         "SymAnd", "SymAndAnd", "SymArrow", "SymAttr", "SymForwardSlash", "SymBang",
@@ -436,8 +439,9 @@ struct wgsl_position {
     size_t column;
 };
 
-/* The line and the column of a byte offset of a text, which is read up to there. An offset inside a
- * character counts as the end of that character, and one after the text as the end of the text. */
+/* Returns the line and the column of a byte offset of a text, which is read up to there. An offset
+ * inside a character counts as the end of that character, and one after the text as the end of the
+ * text. */
 static inline struct wgsl_position wgsl_position_of(const char *text, size_t size, size_t offset) {
     struct wgsl_position found = {1, 1};
     size_t at;

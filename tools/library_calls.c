@@ -34,13 +34,14 @@ static uint32_t tidy(const char *text, size_t size, char *room, size_t room_size
 
 static text_call *const text_calls[] = {wgsl_format, tidy, wgsl_check, wgsl_recognize, tree};
 
-/* Whether a room is as it was filled: with one byte again and again. */
+/* Returns whether a buffer is as it was filled: with one byte again and again. */
 static int is_filled(const char *room, size_t size) {
     while (size > 0 && room[size - 1] == '#') size--;
     return size == 0;
 }
 
-/* What each of them answers of arguments that are none, and of bytes that are no text. */
+/* Checks what each of them returns of arguments that are not memory, and of bytes that are no
+ * text. */
 static int check_text_calls(void) {
     char room[256];
     size_t at;
@@ -94,7 +95,7 @@ static int check_other_calls(void) {
     return 0;
 }
 
-/* A text of no bytes, at null and elsewhere, is the empty module, which prints as a line end. */
+/* A text of no bytes, at null and elsewhere, is the empty module, which prints as a line break. */
 static int check_no_bytes(void) {
     char room[1];
     CHECK(wgsl_format(NULL, 0, NULL, 0, &answer) == WGSL_TOO_SMALL && is_size(1));
@@ -109,7 +110,8 @@ static int check_no_bytes(void) {
     return 0;
 }
 
-/* A room that is too small is left alone, and the size is told; so is the room after a text. */
+/* A buffer that is too small does not change, and the size is returned; nor does what is after a
+ * text in a buffer. */
 static int check_rooms(void) {
     char room[256];
     memset(room, '#', sizeof room);
@@ -126,7 +128,7 @@ static int check_rooms(void) {
     return 0;
 }
 
-/* Whether a text is formatted so by a layout. */
+/* Returns whether a text is formatted so by a layout. */
 static int is_tidied(const struct wgsl_layout *layout, const char *text, const char *formatted) {
     char room[256];
     size_t size = strlen(formatted);
@@ -157,7 +159,7 @@ static int check_layouts(void) {
     return 0;
 }
 
-/* A fault has its place with and without room for its texts, and a module has none. */
+/* A fault has its place with and without a buffer for its texts, and a module has none. */
 static int check_faults(void) {
     static const char texts[] = "unexpected token `=`, expected `identifier`\0identifier";
     char room[256];
@@ -261,7 +263,7 @@ static int check_prints(void) {
     return 0;
 }
 
-/* Another text is refused, with the place where that shows and a message if there is room. */
+/* Another text is refused, with the place where that shows and a message if it fits. */
 static int check_refused_forms(void) {
     const struct refused_form *it = refused_forms;
     for (; it < refused_forms + sizeof refused_forms / sizeof *refused_forms; it++) {
@@ -278,7 +280,7 @@ static int check_refused_forms(void) {
     return 0;
 }
 
-/* No kind has another number, and what is no text or no memory is told first. */
+/* No kind has another number, and what is no text or no memory is reported first. */
 static int check_print_arguments(void) {
     char room[64];
     memset(room, '#', sizeof room);
@@ -326,7 +328,7 @@ static int check_names(void) {
     return 0;
 }
 
-/* The message of an invalid token is what the calls say of one that have room for it. */
+/* The message of an invalid token is what the calls with a buffer for it say of one. */
 static int check_message(void) {
     char room[64];
     CHECK(wgsl_check("#", 1, room, sizeof room, &answer) == WGSL_REFUSED);

@@ -44,7 +44,7 @@ void __wrap_free(void *block) {
     __real_free(block);
 }
 
-/* What a call answers. */
+/* What a call returns. */
 struct said {
     uint32_t status;
     struct wgsl_answer answer;

@@ -1,4 +1,4 @@
-//! Tells cargo where the static library is: in the folder that `CENTRELILAC_LIB` names; without it
+//! Says to cargo where the static library is: in the folder that `CENTRELILAC_LIB` names; without it
 //! in the folder of this crate, as in a release, or in the folder `build` of the repository, where
 //! `make lib` leaves it. If it is in none, checks and documentation still work, and what is linked
 //! fails after a warning that says so.

@@ -4,7 +4,7 @@
 
 #include "wgsl.h"
 
-/* All bytes of a file, or null. */
+/* Returns all bytes of a file, or null. */
 static char *read_all(const char *name, size_t *size) {
     FILE *file = fopen(name, "rb");
     char *text = NULL;

@@ -10,7 +10,7 @@ enum { FIELD = 256 };
 
 static char text[1 << 16], form[1 << 22], renamed[1 << 22];
 
-/* Whether a text is a name that is not too long. */
+/* Returns whether a text is a name that is not too long. */
 static int is_name(const char *name) {
     struct wgsl_answer answer;
     struct wgsl_token token;

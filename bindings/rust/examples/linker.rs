@@ -17,7 +17,7 @@ impl<'t> Visit<'t> for Names {
 }
 
 impl Names {
-    /// A new name: another one with a number at its end.
+    /// Returns a new name: another one with a number at its end.
     fn numbered(&self, name: &Ident) -> Ident {
         let mut numbered = (2u64..).map(|number| Ident::new(format!("{name}_{number}")));
         let found = numbered.find(|name| !self.0.contains(name));
@@ -47,13 +47,13 @@ impl VisitMut for Rename {
     }
 }
 
-/// The names that a module declares.
+/// Returns the names that a module declares.
 fn declared(unit: &TranslationUnit) -> HashSet<Ident> {
     let declarations = unit.global_declarations.iter();
     declarations.filter_map(SyntaxNode::ident).collect()
 }
 
-/// Two modules as one.
+/// Returns two modules as one.
 pub fn link(mut first: TranslationUnit, mut second: TranslationUnit) -> TranslationUnit {
     let mut names = Names::default();
     first.accept(&mut names);
@@ -72,7 +72,7 @@ pub fn link(mut first: TranslationUnit, mut second: TranslationUnit) -> Translat
     first
 }
 
-/// The module in a file.
+/// Returns the module in a file.
 fn read(name: &str) -> Result<TranslationUnit, String> {
     let text = std::fs::read_to_string(name).map_err(|error| format!("{name}: {error}"))?;
     centrelilac::parse(&text).map_err(|fault| format!("{name}: {fault}"))

@@ -1,5 +1,5 @@
 //! Reports every `if` that compares floats with `==`: as `FILE:LINE:COLUMN: MESSAGE` for each file
-//! that is named. The status is 1 if there is one, and 2 if a file is no module.
+//! that is named. The status is 1 if there is one, and 2 if a file is not a module.
 //!
 //! A float is here a literal such as `1.5` or `2f`, a value whose declaration says that it is an
 //! `f32` or an `f16`, or a value that begins with a float, and a sum and the like of these.
@@ -20,7 +20,7 @@ struct Lint<'t> {
 }
 
 impl Lint<'_> {
-    /// Whether an expression is known to be a float.
+    /// Returns whether an expression is known to be a float.
     fn is_float(&self, expression: &Expression) -> bool {
         match expression {
             Expression::Literal(literal) => {
@@ -37,7 +37,7 @@ impl Lint<'_> {
         }
     }
 
-    /// Whether an operation gives a float.
+    /// Returns whether an operation gives a float.
     fn is_float_sum(&self, binary: &BinaryExpression) -> bool {
         use BinaryOperator::{Addition, Division, Multiplication, Remainder, Subtraction};
         let gives_floats = [Addition, Subtraction, Multiplication, Division, Remainder];
@@ -57,7 +57,7 @@ impl Lint<'_> {
     }
 }
 
-/// Whether a type is one of floats.
+/// Returns whether a type is one of floats.
 fn is_float_type(ty: &TypeExpression) -> bool {
     matches!(ty.ident.name(), "f32" | "f16")
 }
@@ -121,7 +121,7 @@ impl<'t> Visit<'t> for Comparisons<'_, '_> {
     }
 }
 
-/// Where a module compares floats in an `if`.
+/// Returns where a module compares floats in an `if`.
 pub fn lint(text: &str) -> Result<Vec<Span>, Fault> {
     let unit = centrelilac::parse(text)?;
     let mut lint = Lint::default();

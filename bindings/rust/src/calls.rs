@@ -51,7 +51,8 @@ pub(crate) fn text_of(call: Call, text: &str, size: usize) -> Result<String, Fau
     }
 }
 
-/// The canonical text of a module: without comments, blank lines and the author's line breaks.
+/// Returns the canonical text of a module: without comments, blank lines and the author's line
+/// breaks.
 ///
 /// # Errors
 ///
@@ -68,7 +69,7 @@ pub fn format(text: &str) -> Result<String, Fault> {
     text_of(Call::Format, text, text.len() + text.len() / 2)
 }
 
-/// Whether a text is a module.
+/// Checks whether a text is a module.
 ///
 /// # Errors
 ///
@@ -85,7 +86,7 @@ pub fn check(text: &str) -> Result<(), Fault> {
     text_of(Call::Check, text, 0).map(drop)
 }
 
-/// Whether a text is a module of the smaller dialect in which nothing is checked.
+/// Checks whether a text is a module of the smaller dialect in which nothing is checked.
 ///
 /// # Errors
 ///
@@ -102,7 +103,7 @@ pub fn recognize(text: &str) -> Result<(), Fault> {
     text_of(Call::Recognize, text, 0).map(drop)
 }
 
-/// The tree of a module. A directive, a declaration, a statement or an expression is read by
+/// Reads the tree of a module. A directive, a declaration, a statement or an expression is read by
 /// `str::parse`, as `text.parse::<Expression>()`.
 ///
 /// # Errors
@@ -134,7 +135,7 @@ pub struct Token {
     pub span: Span,
 }
 
-/// The tokens of a text, without its comments.
+/// Returns the tokens of a text, without its comments.
 ///
 /// # Errors
 ///
@@ -176,8 +177,8 @@ impl Token {
     }
 }
 
-/// Where each template list of a text is, from its `<` to after its `>`, in the order of their
-/// starts. They are found in comments too.
+/// Returns where each template list of a text is, from its `<` to after its `>`, in the order of
+/// their starts. They are found in comments too.
 ///
 /// # Errors
 ///
@@ -210,7 +211,7 @@ pub fn template_lists(text: &str) -> Result<Vec<Span>, Fault> {
     }
 }
 
-/// Whether a text begins with a template list, after blank space and comments.
+/// Returns whether a text begins with a template list, after blank space and comments.
 ///
 /// # Errors
 ///
@@ -227,10 +228,10 @@ pub fn begins_with_template_list(text: &str) -> Result<bool, Fault> {
     Ok(number(begins_with_list_call(text))? == 1)
 }
 
-/// The greatest number of brackets, blocks, template lists and prefix operators that are open at
-/// one place. What reads, prints and drops a text takes stack for each: in the library at most
-/// 1,250 bytes for a bracket, a template list or an operator, and 2,750 for a block. [Printing a
-/// tree](crate::syntax#printing) takes more.
+/// Returns the greatest number of brackets, blocks, template lists and prefix operators that are
+/// open at one place. What reads, prints and drops a text takes stack for each: in the library at
+/// most 1,250 bytes for a bracket, a template list or an operator, and 2,750 for a block. [Printing
+/// a tree](crate::syntax#printing) takes more.
 ///
 /// # Errors
 ///

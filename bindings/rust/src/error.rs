@@ -31,7 +31,7 @@ pub struct ErrorWithSource<'s> {
 }
 
 impl<'s> ErrorWithSource<'s> {
-    /// An error and the text that it is about.
+    /// Returns an error with the text that it is about.
     ///
     /// ```
     /// use centrelilac::error::ErrorWithSource;

@@ -11,7 +11,7 @@ use std::fmt;
 /// How many of the expected tokens a message names, unless one more is all.
 const NAMED: usize = 4;
 
-/// What kind of fault it is.
+/// The kind of a fault.
 #[derive(Clone, Copy, Debug, PartialEq, Eq, Hash)]
 #[non_exhaustive]
 pub enum FaultKind {
@@ -23,13 +23,13 @@ pub enum FaultKind {
     UnexpectedToken,
     /// The text ends too early.
     UnexpectedEof,
-    /// A severity that is none.
+    /// A severity that is not one.
     DiagnosticSeverity,
     /// An attribute whose arguments do not fit.
     Attribute,
     /// A `var` template whose arguments do not fit.
     VarTemplate,
-    /// Memory was refused.
+    /// An allocation failed.
     OutOfMemory,
 }
 
@@ -52,7 +52,7 @@ impl FaultKind {
     }
 }
 
-/// What is wrong with a text, and where.
+/// A fault of a text, or a failed allocation, with its place.
 ///
 /// ```
 /// use centrelilac::{check, Fault, FaultKind};
@@ -86,7 +86,7 @@ pub struct Fault {
 }
 
 impl Fault {
-    /// The fault that an answer tells of a text, by its texts: each ends with a byte 0.
+    /// Returns the fault that an answer reports of a text, by its texts: each ends with a byte 0.
     pub(crate) fn told(text: &str, answer: &Answer, texts: &[u8]) -> Fault {
         let mut texts = texts
             .split(|byte| *byte == 0)
@@ -104,7 +104,7 @@ impl Fault {
         }
     }
 
-    /// The same with the text that it is about, which is written with the line where it starts.
+    /// Adds the text that it is about, which is written with the line where it starts.
     ///
     /// ```
     /// let text = "const a = 1;\nconst = 2;";
@@ -122,7 +122,7 @@ impl Fault {
         self.kind != FaultKind::OutOfMemory
     }
 
-    /// Memory was refused.
+    /// An allocation failed.
     pub(crate) fn out_of_memory() -> Fault {
         Fault {
             kind: FaultKind::OutOfMemory,

@@ -1,12 +1,12 @@
 //! The calls of the static library, made safe. No other file has `unsafe`.
 //!
 //! What a call requires, as `wgsl.h` says, is what Rust's references give: memory that can be read
-//! or written, lies apart and stays as it is for the call. Of the stack, each level of nesting
+//! or written, is apart and stays as it is for the call. Of the stack, each level of nesting
 //! takes at most 2,750 bytes as measured, and 5,700 where a tree is printed, so that a text or a
 //! tree which nests too deep reaches the guard page at the end of the stack, as a recursion of
 //! Rust's does, and ends the process.
 
-/// What a call returns beside its status: `struct wgsl_answer` of `wgsl.h`.
+/// The result of a call beside its status: `struct wgsl_answer` of `wgsl.h`.
 #[repr(C)]
 #[derive(Clone, Copy, Debug, Default)]
 pub struct Answer {
@@ -22,7 +22,7 @@ pub struct Answer {
     pub expected: usize,
 }
 
-/// `struct wgsl_token` of `wgsl.h`.
+/// A token by the number of its kind: `struct wgsl_token` of `wgsl.h`.
 #[repr(C)]
 #[derive(Clone, Copy, Debug, Default)]
 pub struct PlacedKind {
@@ -34,7 +34,7 @@ pub struct PlacedKind {
     pub end: usize,
 }
 
-/// `struct wgsl_place` of `wgsl.h`.
+/// The start and the end of a part of a text: `struct wgsl_place` of `wgsl.h`.
 #[repr(C)]
 #[derive(Clone, Copy, Debug, Default)]
 pub struct Place {
@@ -44,7 +44,7 @@ pub struct Place {
     pub end: usize,
 }
 
-/// `struct wgsl_layout` of `wgsl.h`.
+/// The choices for the layout of a text: `struct wgsl_layout` of `wgsl.h`.
 #[repr(C)]
 #[derive(Clone, Copy, Debug)]
 pub struct Choices {
@@ -54,7 +54,7 @@ pub struct Choices {
     pub indent: u8,
     /// Whether it is a tab.
     pub tab: u8,
-    /// With what lines end.
+    /// The number of its line breaks.
     pub newlines: u8,
 }
 
@@ -123,7 +123,7 @@ extern "C" {
     fn wgsl_c_nesting(text: *const u8, size: usize, answer: *mut Answer) -> u32;
 }
 
-/// What a call said: its status and the rest.
+/// The status of a call, and the rest of its result.
 #[derive(Clone, Copy, Debug)]
 pub struct Said {
     /// The status: one of the constants of `wgsl.h`.
@@ -149,15 +149,16 @@ pub enum Call {
     Print(u32),
 }
 
-/// Makes a call, which writes into the room.
+/// Makes a call, which writes into the buffer.
 pub fn text_call(call: Call, text: &str, room: &mut [u8]) -> Said {
     let mut answer = Answer::default();
     let (at, size) = (text.as_ptr(), text.len());
     let (to, room_size) = (room.as_mut_ptr(), room.len());
-    // SAFETY: the declarations above are those of the exports. The text and the room are those of
+    // SAFETY: the declarations above are those of the exports. The text and the buffer are those of
     // one `&str` and one `&mut [u8]`, which are never null, are apart from each other and from
     // the answer, and are borrowed for the call, and no slice of Rust's is longer than the
-    // exports take; the layout lives as long as the call. An export requires nothing else, and writes nowhere else.
+    // exports take; the layout lives as long as the call. An export requires nothing else, and
+    // writes nowhere else.
     let status = unsafe {
         match call {
             Call::Format => wgsl_c_format(at, size, to, room_size, &mut answer),
@@ -171,7 +172,7 @@ pub fn text_call(call: Call, text: &str, room: &mut [u8]) -> Said {
     Said { status, answer }
 }
 
-/// The tokens of a text, as many as fit into the room.
+/// Writes the tokens of a text, as many as fit into the buffer.
 pub fn tokens_call(text: &str, room: &mut [PlacedKind]) -> Said {
     let mut answer = Answer::default();
     // SAFETY: as in `text_call`; `PlacedKind` has the layout of the struct that the export writes.
@@ -187,7 +188,7 @@ pub fn tokens_call(text: &str, room: &mut [PlacedKind]) -> Said {
     Said { status, answer }
 }
 
-/// The places of the template lists of a text, as many as fit into the room.
+/// Writes the places of the template lists of a text, as many as fit into the buffer.
 pub fn lists_call(text: &str, room: &mut [Place]) -> Said {
     let mut answer = Answer::default();
     // SAFETY: as in `text_call`; `Place` has the layout of the struct that the export writes.
@@ -203,18 +204,18 @@ pub fn lists_call(text: &str, room: &mut [Place]) -> Said {
     Said { status, answer }
 }
 
-/// Whether a text begins with a template list: the size is 1 where it does.
+/// Checks whether a text begins with a template list: the size is 1 where it does.
 pub fn begins_with_list_call(text: &str) -> Said {
     let mut answer = Answer::default();
-    // SAFETY: as in `text_call`; there is no room.
+    // SAFETY: as in `text_call`; there is no buffer.
     let status = unsafe { wgsl_c_begins_with_list(text.as_ptr(), text.len(), &mut answer) };
     Said { status, answer }
 }
 
-/// How deep a text nests, as the size.
+/// Returns how deep a text nests, as the size.
 pub fn nesting_call(text: &str) -> Said {
     let mut answer = Answer::default();
-    // SAFETY: as in `text_call`; there is no room.
+    // SAFETY: as in `text_call`; there is no buffer.
     let status = unsafe { wgsl_c_nesting(text.as_ptr(), text.len(), &mut answer) };
     Said { status, answer }
 }

@@ -33,7 +33,7 @@ use sealed::Written;
 pub(crate) use values::write_text;
 pub(crate) use writer::Writer;
 
-/// Why a text is not read as a tree.
+/// The reason why a text is not read as a tree.
 #[derive(Clone, Copy, Debug, PartialEq, Eq, Hash)]
 #[non_exhaustive]
 pub enum FormError {
@@ -51,7 +51,7 @@ impl fmt::Display for FormError {
 
 impl Error for FormError {}
 
-/// What has a text form: each type of [`crate::syntax`], and what their fields hold. No type
+/// A type that has a text form: each type of [`crate::syntax`], and what their fields hold. No type
 /// outside this crate can have one.
 pub trait Form: Written + Coded + Accept {}
 
@@ -81,7 +81,7 @@ pub(crate) mod sealed {
     }
 }
 
-/// The text form of the tree that a text is, as the library writes it.
+/// Returns the text form of the tree that a text is, as the library writes it.
 ///
 /// # Errors
 ///
@@ -101,7 +101,8 @@ pub fn text_form<T: Source>(text: &str) -> Result<String, Fault> {
     form_of(T::NUMBER, text)
 }
 
-/// The text form of a tree: for a tree that was read from a text, what [`text_form`] gives of it.
+/// Writes the text form of a tree: for a tree that was read from a text, what [`text_form`] gives
+/// of it.
 ///
 /// ```
 /// use centrelilac::form::to_form;
@@ -115,8 +116,8 @@ pub fn to_form<T: Form>(tree: &T) -> String {
     form.finish()
 }
 
-/// The tree that a whole text is the form of, as [`text_form`] and [`to_form`] write it: with no
-/// blank space, and fields in their order. It may be of any depth.
+/// Reads the tree that a whole text is the form of, as [`text_form`] and [`to_form`] write it: with
+/// no blank space, and fields in their order. It may be of any depth.
 ///
 /// # Errors
 ///

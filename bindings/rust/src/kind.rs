@@ -3,8 +3,8 @@
 /// The kinds, in the order of their numbers.
 macro_rules! kinds {
     ($($(#[$note:meta])* $kind:ident,)*) => {
-        /// Which token it is, without what it holds. They are in the order of their numbers in
-        /// `wgsl.h`. No call gives a comment.
+        /// The kind of a token, without what it holds. The kinds are in the order of their numbers
+        /// in `wgsl.h`. No call gives a comment.
         #[derive(Clone, Copy, Debug, PartialEq, Eq, Hash)]
         pub enum TokenKind {
             $($(#[$note])* $kind,)*

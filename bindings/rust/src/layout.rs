@@ -4,7 +4,8 @@ use crate::calls::text_of;
 use crate::fault::Fault;
 use crate::ffi::{Call, Choices};
 
-/// How long a line may be, how far it is indented, and with what it ends.
+/// The layout of a formatted text: how long a line may be, how far it is indented, and with what it
+/// ends.
 ///
 /// # Examples
 ///
@@ -24,7 +25,7 @@ pub struct Layout {
     pub newlines: Newlines,
 }
 
-/// What one level of indentation is.
+/// The blank space of one level of indentation.
 #[derive(Clone, Copy, Debug, PartialEq, Eq, Hash)]
 pub enum Indent {
     /// A number of spaces. A tab in a comment counts as many columns.
@@ -33,7 +34,7 @@ pub enum Indent {
     Tab(u8),
 }
 
-/// With what lines end.
+/// The line breaks of a formatted text.
 #[derive(Clone, Copy, Debug, PartialEq, Eq, Hash)]
 pub enum Newlines {
     /// With CR LF if the first line of the source does, otherwise with LF.
@@ -45,7 +46,8 @@ pub enum Newlines {
 }
 
 impl Default for Layout {
-    /// Lines of up to 100 columns, four spaces a level, and the line ends of the source.
+    /// Returns the standard layout: lines of up to 100 columns, four spaces a level, and the line
+    /// breaks of the source.
     fn default() -> Layout {
         Layout {
             width: 100,
@@ -56,7 +58,7 @@ impl Default for Layout {
 }
 
 impl Layout {
-    /// What the library is told of it.
+    /// Returns what a call takes of it.
     fn choices(self) -> Choices {
         let (tab, indent) = match self.indent {
             Indent::Spaces(columns) => (0, columns),
@@ -76,8 +78,8 @@ impl Layout {
     }
 }
 
-/// The formatted text of a module, with its comments, as the program `wgsltidy` writes it. Names
-/// are not checked, so a module with a name that this library does not know is formatted too.
+/// Returns the formatted text of a module, with its comments, as the program `wgsltidy` writes it.
+/// Names are not checked, so a module with a name that this library does not know is formatted too.
 ///
 /// # Errors
 ///
@@ -94,7 +96,7 @@ pub fn tidy(text: &str) -> Result<String, Fault> {
     tidy_with(text, Layout::default())
 }
 
-/// [`tidy`] by another layout.
+/// Returns the formatted text of a module as [`tidy`] does, by another layout.
 ///
 /// # Errors
 ///

@@ -20,7 +20,8 @@ impl fmt::Display for Position {
     }
 }
 
-/// Where the lines of a text start, from which the line and the column of any place follow.
+/// An index of where the lines of a text start, from which the line and the column of any place
+/// follow.
 ///
 /// Making it reads the text once; after that a place takes a binary search, however long the text
 /// or its lines are. A line ends with a line feed.
@@ -73,7 +74,7 @@ impl LineIndex {
         }
     }
 
-    /// How many lines there are, at least one.
+    /// Returns how many lines there are, at least one.
     ///
     /// ```
     /// use centrelilac::LineIndex;
@@ -86,8 +87,8 @@ impl LineIndex {
         self.starts.len()
     }
 
-    /// The line and the columns of a place, which is given in bytes, as spans are. A place in the
-    /// middle of a character is that of the character, and one after the text is its end.
+    /// Returns the line and the columns of a place, which is given in bytes, as spans are. A place
+    /// in the middle of a character is that of the character, and one after the text is its end.
     ///
     /// ```
     /// use centrelilac::{LineIndex, Position};
@@ -110,7 +111,7 @@ impl LineIndex {
         }
     }
 
-    /// Where a line is, without the line feed at its end; there are none before 1 and after
+    /// Returns where a line is, without the line feed at its end; there are none before 1 and after
     /// [`count`](Self::count).
     ///
     /// ```

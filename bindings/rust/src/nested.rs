@@ -32,7 +32,7 @@ pub trait Nested: Coded + Accept + 'static {
     /// Which kind it is, if it may nest.
     const KIND: Option<Kind>;
 
-    /// This, if it is an expression or a statement.
+    /// Returns this, if it is an expression or a statement.
     fn inner(&self) -> Option<Inner<'_>>;
 }
 

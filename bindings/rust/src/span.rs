@@ -17,7 +17,7 @@ pub struct Span {
 }
 
 impl Span {
-    /// The span with the start and the end of a range.
+    /// Returns the span with the start and the end of a range.
     ///
     /// ```
     /// use centrelilac::span::Span;
@@ -33,7 +33,7 @@ impl Span {
         }
     }
 
-    /// The same as a range, by which a text gives its part.
+    /// Returns the same as a range, by which a text gives its part.
     ///
     /// ```
     /// let text = "a + b";
@@ -46,7 +46,7 @@ impl Span {
         self.start..self.end
     }
 
-    /// From the start of this span to the end of another.
+    /// Returns the span from the start of this one to the end of another.
     ///
     /// ```
     /// use centrelilac::span::Span;
@@ -104,7 +104,7 @@ pub struct Spanned<T: 'static> {
 }
 
 impl<T> Spanned<T> {
-    /// A node with a span.
+    /// Returns a node with a span.
     ///
     /// ```
     /// use centrelilac::span::{Span, Spanned};
@@ -118,7 +118,7 @@ impl<T> Spanned<T> {
         Spanned::new_boxed(Box::new(node), span)
     }
 
-    /// A node in a box with a span.
+    /// Returns a node in a box with a span.
     ///
     /// ```
     /// use centrelilac::span::{Span, Spanned};
@@ -135,7 +135,7 @@ impl<T> Spanned<T> {
         }
     }
 
-    /// Where the node is.
+    /// Returns where the node is.
     ///
     /// ```
     /// let unit = centrelilac::parse("alias A = B;")?;
@@ -147,7 +147,7 @@ impl<T> Spanned<T> {
         self.span
     }
 
-    /// The node.
+    /// Returns the node.
     ///
     /// ```
     /// let unit = centrelilac::parse("alias A = B;")?;
@@ -159,7 +159,7 @@ impl<T> Spanned<T> {
         self.node.as_deref().expect("a node")
     }
 
-    /// The node, which may be changed.
+    /// Returns the node, which may be changed.
     ///
     /// ```
     /// use centrelilac::syntax::GlobalDeclaration;
@@ -175,7 +175,7 @@ impl<T> Spanned<T> {
         node.expect("a node")
     }
 
-    /// The node alone.
+    /// Returns the node without its span.
     ///
     /// ```
     /// use centrelilac::span::Spanned;
@@ -307,7 +307,7 @@ impl<T: Nested + Written> Written for Spanned<T> {
     }
 }
 
-/// Whether two trees are equal and have equal spans.
+/// Returns whether two trees are equal and have equal spans.
 ///
 /// ```
 /// use centrelilac::span::equal_with_spans;

@@ -50,7 +50,7 @@ use crate::syntax::*;
 
 pub use self::node_visits::{Visit, VisitMut};
 
-/// What has parts that are visited.
+/// A tree or a part of one that has parts, which are visited.
 pub trait Walk {
     /// Visits the parts of a node, in the order of the text.
     ///
@@ -111,7 +111,7 @@ impl<T: Accept + 'static> Walk for Spanned<T> {
     }
 }
 
-/// What a visitor can be sent to: a node, a list of nodes, or a node that may be left out.
+/// A type that a visitor can be sent to: a node, a list of nodes, or a node that may be left out.
 pub trait Accept {
     /// Calls the method of a visitor for this node.
     ///
@@ -208,7 +208,7 @@ impl Walk for Ident {
 /// The visitors, with their methods for each kind of node.
 macro_rules! visitors {
     ($($name:ident $visit:ident $visit_mut:ident,)*) => {
-        /// Reads the nodes of a tree: see the [module](super).
+        /// A visitor that reads the nodes of a tree: see the [module](super).
         ///
         /// The lifetime is that of the tree, so a visitor can keep what it is given.
         pub trait Visit<'t> {
@@ -220,7 +220,7 @@ macro_rules! visitors {
             )*
         }
 
-        /// Changes the nodes of a tree: see the [module](super).
+        /// A visitor that changes the nodes of a tree: see the [module](super).
         pub trait VisitMut {
             $(
                 #[doc = concat!("Changes a [`", stringify!($name), "`].")]

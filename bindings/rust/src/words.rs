@@ -1,4 +1,4 @@
-//! The values that stand for words of their own, and the operators.
+//! The values that are written as words of their own, and the operators.
 
 use crate::form::sealed::Written;
 use crate::form::{write_text, FormError, Reader, Writer};
@@ -7,7 +7,7 @@ use std::error::Error;
 use std::fmt;
 use std::str::FromStr;
 
-/// A text is no word of the values that were asked for.
+/// The error for a text that is not a word of the values that were asked for.
 #[derive(Clone, Copy, Debug, PartialEq, Eq, Hash)]
 pub struct UnknownWord;
 
@@ -19,7 +19,7 @@ impl fmt::Display for UnknownWord {
 
 impl Error for UnknownWord {}
 
-/// Enums whose variants stand for words, which are their text form.
+/// Enums whose variants are written as words, which are their text form.
 macro_rules! words {
     ($($(#[$doc:meta])* $name:ident {
         $($(#[$note:meta])* $variant:ident = $word:literal,)*
@@ -32,7 +32,7 @@ macro_rules! words {
         }
 
         impl $name {
-            /// The word that it stands for, from which it is read by `str::parse`.
+            /// Returns the word that it is written as, from which it is read by `str::parse`.
             ///
             /// ```
             #[doc = concat!("use centrelilac::syntax::", stringify!($name), ";\n")]

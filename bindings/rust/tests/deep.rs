@@ -15,14 +15,14 @@ fn with_stack(kilobytes: usize, test: fn()) {
     thread.spawn(test).expect("a thread").join().expect("holds");
 }
 
-/// The hash of a tree.
+/// Returns the hash of a tree.
 fn hash_of(tree: &impl Hash) -> u64 {
     let mut hasher = DefaultHasher::new();
     tree.hash(&mut hasher);
     hasher.finish()
 }
 
-/// A name in parentheses.
+/// Returns a name in parentheses.
 fn parentheses(name: &str) -> Expression {
     let name = Expression::from(Ident::from(name));
     (0..LEVELS).fold(name, |inside, at| {
@@ -31,7 +31,7 @@ fn parentheses(name: &str) -> Expression {
     })
 }
 
-/// A sum that begins with a name.
+/// Returns a sum that begins with a name.
 fn sum(name: &str) -> Expression {
     let name = Expression::from(Ident::from(name));
     (0..LEVELS).fold(name, |left, number| {
@@ -43,7 +43,7 @@ fn sum(name: &str) -> Expression {
     })
 }
 
-/// A `return` of a name in blocks and `if` statements, in turn.
+/// Returns a `return` of a name in blocks and `if` statements, in turn.
 fn blocks(name: &str) -> Statement {
     let name = Expression::from(Ident::from(name));
     let innermost = Statement::from(ReturnStatement::from(name));

@@ -4,7 +4,7 @@
 #[path = "../examples/lint.rs"]
 mod lint;
 
-/// The lines of a text where it finds something, with the columns.
+/// Returns the lines of a text where it finds something, with the columns.
 fn places(text: &str) -> Vec<String> {
     let lines = centrelilac::LineIndex::new(text);
     let found = lint::lint(text).expect("a module");

@@ -7,7 +7,7 @@ use centrelilac::{parse_str, recognize_str};
 use std::collections::HashSet;
 use std::str::FromStr;
 
-/// A name as an expression with its span.
+/// Returns a name as an expression with its span.
 fn name(text: &str) -> ExpressionNode {
     Expression::from(Ident::new(text.into())).into()
 }
@@ -227,7 +227,7 @@ fn attributes_are_changed_through_each_node() {
     assert!(has_none(node.node_mut()));
 }
 
-/// Whether a node of any type has no attributes.
+/// Returns whether a node of any type has no attributes.
 fn has_none(node: &mut impl SyntaxNode) -> bool {
     node.attributes_mut().is_empty()
 }

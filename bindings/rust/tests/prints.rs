@@ -11,12 +11,12 @@ use std::fmt::Display;
 use std::str::FromStr;
 use text::texts_of;
 
-/// The print of a text, unless the text has a fault.
+/// Returns the print of a text, unless the text has a fault.
 fn print_of<T: FromStr + Display>(text: &str) -> Option<String> {
     text.parse::<T>().ok().map(|tree| tree.to_string())
 }
 
-/// Checks what the tree of a row prints, and tells whether it has one.
+/// Checks what the tree of a row prints, and returns whether it has one.
 fn check_row(row: &Row) -> bool {
     let text = std::str::from_utf8(&row.text).unwrap_or_default();
     let print = match row.read.as_str() {
@@ -153,7 +153,7 @@ fn each_kind_of_node_prints_to_a_text_that_parses_to_it() {
     assert_eq!(prints.0, wanted);
 }
 
-/// A name as an expression.
+/// Returns a name as an expression.
 fn name(name: &str) -> Expression {
     Expression::from(Ident::from(name))
 }

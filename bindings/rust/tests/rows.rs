@@ -58,7 +58,7 @@ fn check_place(row: &Row, text: &str, fault: &Fault) {
     );
 }
 
-/// Checks a text that may be a tree: its form is read and written back as it stands.
+/// Checks a text that may be a tree: its form is read and written back as it is.
 fn check_tree<T: Source + PartialEq + Debug>(row: &Row) {
     let text = std::str::from_utf8(&row.text).expect("a text");
     match row.wanted("fault") {
@@ -105,7 +105,7 @@ fn check_unit(row: &Row) {
     }
 }
 
-/// The tokens that are wanted, by their places, and what ends them.
+/// Returns the tokens that are wanted, by their places, and what ends them.
 fn check_tokens(row: &Row) {
     let text = std::str::from_utf8(&row.text).expect("a text");
     let wanted = texts_of(row.wanted("items").expect("items"));
@@ -193,7 +193,7 @@ fn check_path(row: &Row, text: &str) {
     }
 }
 
-/// Checks a row, unless this crate has no call for it, and tells whether it did.
+/// Checks a row, unless this crate has no call for it, and returns whether it did.
 fn check_row(row: &Row) -> bool {
     let text = String::from_utf8_lossy(&row.text);
     match row.read.as_str() {
@@ -229,7 +229,7 @@ fn rows_hold() {
     assert!(count > 1_800, "only {count} rows were read");
 }
 
-/// What is not the form of a tree is told as such.
+/// What is not the form of a tree is reported as such.
 #[test]
 fn other_texts_are_no_form() {
     for text in [
@@ -248,7 +248,7 @@ fn other_texts_are_no_form() {
     assert_eq!(from_form::<Statement>(&lists), Err(FormError::Malformed));
 }
 
-/// Characters that stand after a `\` in a form are read back.
+/// Characters that are after a `\` in a form are read back.
 #[test]
 fn texts_have_a_form() {
     let text = "a\"b\\c\u{1}é".to_owned();

@@ -23,7 +23,7 @@ impl<'t> Visit<'t> for Words {
     }
 }
 
-/// The words of a tree.
+/// Returns the words of a tree.
 fn words(tree: &impl Accept) -> String {
     let mut words = Words::default();
     tree.accept(&mut words);

@@ -1,4 +1,4 @@
--- What is told of an error that is returned of a text.
+-- What is reported of an error that is returned of a text.
 use Rattle.std.proofs.Common.{◌≡◌, ◌⊎◌, inl, inr, ℕ, List, length, ap, subst}
 use Rattle.std.specs.Str.{chars}
 use Rattle.grammar.specs.Tokens.{Fault}
@@ -15,7 +15,7 @@ other : {A : Type 0} (e : Error) → ¬ (e.error ≡ kinds.OutOfMemory) → IsOu
 other e not (inl is) = absurd (not (ap (λ (x : Error). x.error) is))
 other e not (inr a) = a
 
--- a text is refused where an error of it is told
+-- a text is refused where an error of it is reported
 pub refused_by : (IsNamed : List ℕ → Fault → Type 0) (source text before buffer : List ℕ) (a : Answer) (e : Error)
     → source ≡ text → IsOutOfMemory e ⊎ IsNamed (chars source) (fault_view e)
     → StandsWithin e.span (length source)

@@ -51,7 +51,7 @@ TellsError e before buffer a =
     })
     × ((take (length texts) buffer ≡ texts) ⊎ ((length before < length texts) × (buffer ≡ before)))
 
--- the text is refused: the answer tells an error that is a fault of it, which is in the text or
+-- the text is refused: the answer has an error that is a fault of it, which is in the text or
 -- ends one byte past it
 abbrev pub Refuses : (List ℕ → Fault → Type 0) → List ℕ → List ℕ → List ℕ → Answer → Type 0
 Refuses IsNamed text before buffer a = (e : Error) × IsNamed (chars text) (fault_view e)

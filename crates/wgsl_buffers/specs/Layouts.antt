@@ -3,7 +3,7 @@ use Rattle.std.specs.Prelude.{◌==◌, ℕ, Bool, true, false, if◌then◌else
 use Rattle.wgsl_model_tidy.specs.Layout.{Layout, Newlines, auto, lf, crlf}
 use Rattle.wgsl_buffers.specs.declared.tidied.Choices.{Choices}
 
--- 0 for the line ends of the source, 1 for LF, else CR LF
+-- 0 for the line breaks of the source, 1 for LF, else CR LF
 abbrev pub newlines_of : ℕ → Newlines
 newlines_of n = if n == 0 then auto else (if n == 1 then lf else crlf)
 

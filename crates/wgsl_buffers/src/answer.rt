@@ -11,7 +11,7 @@ pub const DONE: u32 = 0;
 /// the buffer if they fit.
 pub const REFUSED: u32 = 1;
 
-/// The bytes are no UTF-8: the answer starts where they stop being it.
+/// The bytes are not UTF-8: the answer starts where they stop being UTF-8.
 pub const NOT_UTF8: u32 = 2;
 
 /// An allocation failed.
@@ -23,7 +23,7 @@ pub const TOO_SMALL: u32 = 4;
 /// No tree has the number that was asked for.
 pub const UNKNOWN: u32 = 5;
 
-/// What a call returns beside its status. A number that does not go with the status is 0.
+/// The result of a call beside its status. A number that does not go with the status is 0.
 #[repr(C)]
 #[derive(Clone, Copy, Debug, PartialEq, Eq)]
 pub struct Answer {
@@ -66,7 +66,7 @@ impl Answer {
     }
 }
 
-/// Copies bytes to the buffer if they fit, and tells whether they do.
+/// Copies bytes to the buffer if they fit, and returns whether they do.
 pub fn give(bytes: &[u8], buffer: &mut [u8]) -> bool
     ensures given { result ≡ true → take (length bytes.now) buffer.new ≡ bytes.now }
     ensures small { result ≡ false → length buffer.old < length bytes.now }
@@ -80,7 +80,7 @@ pub fn give(bytes: &[u8], buffer: &mut [u8]) -> bool
     true
 }
 
-/// Returns a text.
+/// Gives a text as the result of a call, and returns the status.
 pub fn tell_text(text: &str, buffer: &mut [u8], answer: &mut Answer) -> u32
     ensures { ((result ≡ 0) × Holds text.now buffer.new answer.new) ⊎
         ((result ≡ 4) × Lacks text.now buffer.old buffer.new answer.new) }
@@ -93,7 +93,7 @@ pub fn tell_text(text: &str, buffer: &mut [u8], answer: &mut Answer) -> u32
     }
 }
 
-/// Returns a number.
+/// Gives a number as the result of a call, and returns the status.
 pub fn tell_number(number: usize, answer: &mut Answer) -> u32
     ensures status { result ≡ 0 }
     ensures number { answer.new ≡ counted number }
@@ -102,7 +102,7 @@ pub fn tell_number(number: usize, answer: &mut Answer) -> u32
     DONE
 }
 
-/// Returns that an allocation failed.
+/// Reports that an allocation failed, and returns the status.
 pub fn refuse_memory(answer: &mut Answer) -> u32
     ensures status { result ≡ 3 }
     ensures nothing { answer.new ≡ counted 0 }
@@ -111,7 +111,7 @@ pub fn refuse_memory(answer: &mut Answer) -> u32
     OUT_OF_MEMORY
 }
 
-/// The text that the bytes are; else the answer says where they stop being one.
+/// Returns the text that the bytes are; else the answer says where they stop being one.
 pub fn text_of<'t>(bytes: &'t [u8], answer: &mut Answer) -> Option<&'t str>
     ensures { MatchOption result (IsNoText bytes.now answer.new) (λ text.
         (text.now ≡ bytes.now) × IsUtf8 bytes.now) }

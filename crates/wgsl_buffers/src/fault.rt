@@ -62,7 +62,7 @@ fn texts_of(alloc: Global, kind: &ErrorKind) -> Result<String, AllocError>
     Ok(texts)
 }
 
-/// Returns an error.
+/// Reports an error, and returns the status.
 pub fn tell_error(alloc: Global, error: Error, buffer: &mut [u8], answer: &mut Answer) -> u32
     ensures refused { result ≡ 1 → TellsError error buffer.old buffer.new answer.new }
     ensures named { result ≡ 1 → ¬ (error.error ≡ kinds.OutOfMemory) }
@@ -86,7 +86,7 @@ pub fn tell_error(alloc: Global, error: Error, buffer: &mut [u8], answer: &mut A
     REFUSED
 }
 
-/// Returns an error of a text form.
+/// Reports an error of a text form, and returns the status.
 pub fn tell_form_error(
     alloc: Global,
     error: FormError,

@@ -9,7 +9,7 @@ use std::alloc::Global;
 use wgsl_lex_templates::{Templates, discover};
 use wgsl_lexer::recognize_template_list;
 
-/// Where something starts and ends.
+/// The start and the end of a part of a text.
 #[repr(C)]
 #[derive(Clone, Copy, Debug, PartialEq, Eq)]
 pub struct Place {
@@ -17,8 +17,8 @@ pub struct Place {
     pub end: usize,
 }
 
-/// Whether a text begins with a template list, after blank space and comments: the answer has size
-/// 1 where it does.
+/// Reports whether a text begins with a template list, after blank space and comments: the answer
+/// has size 1 where it does.
 pub fn begins_with_list(alloc: Global, text: &[u8], answer: &mut Answer) -> u32
     ensures { FindsList text.now answer.new result }
 {
@@ -31,7 +31,7 @@ pub fn begins_with_list(alloc: Global, text: &[u8], answer: &mut Answer) -> u32
     }
 }
 
-/// Writes the places of the lists of a text, as many as fit, and tells how many there are.
+/// Writes the places of the lists of a text, as many as fit, and returns how many there are.
 #[tactic(auto, using(crate::proofs::Written::lists))]
 fn fill(templates: &Templates, size: usize, buffer: &mut [Place]) -> usize
     ensures length { length buffer.new ≡ length buffer.old }
@@ -51,8 +51,8 @@ fn fill(templates: &Templates, size: usize, buffer: &mut [Place]) -> usize
     count
 }
 
-/// Where each template list of a text starts, at its `<`, and where the text after it begins: as
-/// many as fit, in the order of their starts, and how many there are.
+/// Writes where each template list of a text starts, at its `<`, and where the text after it
+/// begins: as many as fit, in the order of their starts, and how many there are.
 pub fn write_lists(alloc: Global, text: &[u8], buffer: &mut [Place], answer: &mut Answer) -> u32
     ensures { WritesLists text.now buffer.new answer.new result }
 {

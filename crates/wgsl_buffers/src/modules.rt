@@ -41,7 +41,7 @@ fn checked(alloc: Global, source: &str) -> Result<(), Error>
     Ok(())
 }
 
-/// The canonical text of a module.
+/// Writes the canonical text of a module.
 pub fn format(alloc: Global, text: &[u8], buffer: &mut [u8], answer: &mut Answer) -> u32
     ensures { Formats text.now buffer.old buffer.new answer.new result }
 {
@@ -54,7 +54,7 @@ pub fn format(alloc: Global, text: &[u8], buffer: &mut [u8], answer: &mut Answer
     }
 }
 
-/// Whether a text is a module.
+/// Checks whether a text is a module.
 pub fn check(alloc: Global, text: &[u8], buffer: &mut [u8], answer: &mut Answer) -> u32
     ensures { Checks text.now buffer.old buffer.new answer.new result }
 {
@@ -67,7 +67,7 @@ pub fn check(alloc: Global, text: &[u8], buffer: &mut [u8], answer: &mut Answer)
     }
 }
 
-/// Whether a text is a module of the dialect that is recognised alone.
+/// Checks whether a text is a module of the dialect.
 pub fn recognize(alloc: Global, text: &[u8], buffer: &mut [u8], answer: &mut Answer) -> u32
     ensures { Recognizes text.now buffer.old buffer.new answer.new result }
 {
@@ -80,8 +80,8 @@ pub fn recognize(alloc: Global, text: &[u8], buffer: &mut [u8], answer: &mut Ans
     }
 }
 
-/// The greatest number of brackets, blocks, template lists and prefix operators that are open at
-/// one place.
+/// Reports the greatest number of brackets, blocks, template lists and prefix operators that are
+/// open at one place.
 pub fn measure_nesting(alloc: Global, text: &[u8], answer: &mut Answer) -> u32
     ensures { MeasuresNesting text.now answer.new result }
 {

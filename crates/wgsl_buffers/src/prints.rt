@@ -60,11 +60,11 @@ fn printed_kind(alloc: Global, what: u32, form: &str) -> Option<Result<String, F
     }
 }
 
-/// The printed text of the node that a form describes: 0 asks for a module, 1 for a directive, 2
-/// for a declaration, 3 for a statement, 4 for an expression, 5 for an attribute, 6 for a member of
-/// a structure, 7 for a parameter, 8 for the kind of a declaration, 9 for a selector, 10 to 13 for a
-/// clause of `if`, `else if`, `else` and `switch`, 14 for `continuing`, 15 for `break if` and 16 for
-/// `@type`.
+/// Writes the printed text of the node that a form describes: 0 asks for a module, 1 for a
+/// directive, 2 for a declaration, 3 for a statement, 4 for an expression, 5 for an attribute, 6
+/// for a member of a structure, 7 for a parameter, 8 for the kind of a declaration, 9 for a
+/// selector, 10 to 13 for a clause of `if`, `else if`, `else` and `switch`, 14 for `continuing`, 15
+/// for `break if` and 16 for `@type`.
 pub fn print_form(
     alloc: Global,
     what: u32,

@@ -16,7 +16,7 @@ use std::alloc::Global;
 use wgsl_error::Error;
 use wgsl_format::{Indent, Layout, Newlines, tidy_with};
 
-/// What a caller chooses of the layout.
+/// The choices of a caller for the layout.
 #[repr(C)]
 #[derive(Clone, Copy, Debug, PartialEq, Eq)]
 pub struct Choices {
@@ -26,7 +26,7 @@ pub struct Choices {
     pub indent: u8,
     /// 0 if a level is spaces, any other number if it is a tab.
     pub tab: u8,
-    /// 0 for the line ends of the source, 1 for LF, any other number for CR LF.
+    /// 0 for the line breaks of the source, 1 for LF, any other number for CR LF.
     pub newlines: u8,
 }
 
@@ -62,7 +62,7 @@ fn tidied(alloc: Global, source: &str, choices: &Choices) -> Result<String, Erro
     Ok(text)
 }
 
-/// The formatted text of a module, with its comments.
+/// Writes the formatted text of a module, with its comments.
 pub fn tidy(
     alloc: Global,
     choices: &Choices,

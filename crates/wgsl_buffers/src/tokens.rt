@@ -42,8 +42,8 @@ fn fill(left: &mut TextTokens, buffer: &mut [PlacedKind]) -> usize
     count
 }
 
-/// The tokens of a text: as many as fit, and how many there are. Where text that is no token ends
-/// them, the text is refused, with its place.
+/// Writes the tokens of a text: as many as fit, and how many there are. Where text that is no token
+/// ends them, the text is refused, with its place.
 pub fn write_tokens(
     alloc: Global,
     text: &[u8],

@@ -75,8 +75,8 @@ fn form_of(alloc: Global, what: u32, source: &str) -> Option<Result<String, Erro
     }
 }
 
-/// The tree that a text is, by its text form: 0 asks for a module, 1 for a directive, 2 for a
-/// declaration, 3 for a statement, 4 for an expression.
+/// Writes the tree that a text is, by its text form: 0 asks for a module, 1 for a directive, 2 for
+/// a declaration, 3 for a statement, 4 for an expression.
 pub fn write_tree(
     alloc: Global,
     what: u32,

@@ -9,7 +9,7 @@ ghost use Rattle.wgsl_buffers.specs.Layouts.{layout_of};
 use std::alloc::Global;
 use wgsl_buffers::{Answer, Choices, Place, PlacedKind};
 
-/// The canonical text of a module.
+/// Writes the canonical text of a module.
 #[unsafe(no_mangle)]
 pub extern "C" fn wgsl_c_format(
     alloc: Global,
@@ -22,7 +22,7 @@ pub extern "C" fn wgsl_c_format(
     wgsl_buffers::format(alloc, text, buffer, answer)
 }
 
-/// The formatted text of a module, with its comments.
+/// Writes the formatted text of a module, with its comments.
 #[unsafe(no_mangle)]
 pub extern "C" fn wgsl_c_tidy(
     alloc: Global,
@@ -36,7 +36,7 @@ pub extern "C" fn wgsl_c_tidy(
     wgsl_buffers::tidy(alloc, choices, text, buffer, answer)
 }
 
-/// Whether a text is a module.
+/// Checks whether a text is a module.
 #[unsafe(no_mangle)]
 pub extern "C" fn wgsl_c_check(
     alloc: Global,
@@ -49,7 +49,7 @@ pub extern "C" fn wgsl_c_check(
     wgsl_buffers::check(alloc, text, buffer, answer)
 }
 
-/// Whether a text is a module of the dialect that is recognised alone.
+/// Checks whether a text is a module of the dialect.
 #[unsafe(no_mangle)]
 pub extern "C" fn wgsl_c_recognize(
     alloc: Global,
@@ -62,8 +62,8 @@ pub extern "C" fn wgsl_c_recognize(
     wgsl_buffers::recognize(alloc, text, buffer, answer)
 }
 
-/// The tree that a text is, by its text form: 0 asks for a module, 1 for a directive, 2 for a
-/// declaration, 3 for a statement, 4 for an expression.
+/// Writes the tree that a text is, by its text form: 0 asks for a module, 1 for a directive, 2 for
+/// a declaration, 3 for a statement, 4 for an expression.
 #[unsafe(no_mangle)]
 pub extern "C" fn wgsl_c_tree(
     alloc: Global,
@@ -77,11 +77,11 @@ pub extern "C" fn wgsl_c_tree(
     wgsl_buffers::write_tree(alloc, what, text, buffer, answer)
 }
 
-/// The printed text of the node that a form describes: 0 asks for a module, 1 for a directive, 2
-/// for a declaration, 3 for a statement, 4 for an expression, 5 for an attribute, 6 for a member of
-/// a structure, 7 for a parameter, 8 for the kind of a declaration, 9 for a selector, 10 to 13 for a
-/// clause of `if`, `else if`, `else` and `switch`, 14 for `continuing`, 15 for `break if` and 16 for
-/// `@type`.
+/// Writes the printed text of the node that a form describes: 0 asks for a module, 1 for a
+/// directive, 2 for a declaration, 3 for a statement, 4 for an expression, 5 for an attribute, 6
+/// for a member of a structure, 7 for a parameter, 8 for the kind of a declaration, 9 for a
+/// selector, 10 to 13 for a clause of `if`, `else if`, `else` and `switch`, 14 for `continuing`, 15
+/// for `break if` and 16 for `@type`.
 #[unsafe(no_mangle)]
 pub extern "C" fn wgsl_c_print(
     alloc: Global,
@@ -95,7 +95,7 @@ pub extern "C" fn wgsl_c_print(
     wgsl_buffers::print_form(alloc, what, form, buffer, answer)
 }
 
-/// The tokens of a text, as many as fit.
+/// Writes the tokens of a text, as many as fit.
 #[unsafe(no_mangle)]
 pub extern "C" fn wgsl_c_tokens(
     alloc: Global,
@@ -108,7 +108,7 @@ pub extern "C" fn wgsl_c_tokens(
     wgsl_buffers::write_tokens(alloc, text, buffer, answer)
 }
 
-/// The places of the template lists of a text, as many as fit.
+/// Writes the places of the template lists of a text, as many as fit.
 #[unsafe(no_mangle)]
 pub extern "C" fn wgsl_c_lists(
     alloc: Global,
@@ -121,7 +121,7 @@ pub extern "C" fn wgsl_c_lists(
     wgsl_buffers::write_lists(alloc, text, buffer, answer)
 }
 
-/// Whether a text begins with a template list, after blank space and comments.
+/// Reports whether a text begins with a template list, after blank space and comments.
 #[unsafe(no_mangle)]
 pub extern "C" fn wgsl_c_begins_with_list(alloc: Global, text: &[u8], answer: &mut Answer) -> u32
     ensures { FindsList text.now answer.new result }
@@ -129,8 +129,8 @@ pub extern "C" fn wgsl_c_begins_with_list(alloc: Global, text: &[u8], answer: &m
     wgsl_buffers::begins_with_list(alloc, text, answer)
 }
 
-/// The greatest number of brackets, blocks, template lists and prefix operators that are open at
-/// one place.
+/// Reports the greatest number of brackets, blocks, template lists and prefix operators that are
+/// open at one place.
 #[unsafe(no_mangle)]
 pub extern "C" fn wgsl_c_nesting(alloc: Global, text: &[u8], answer: &mut Answer) -> u32
     ensures { MeasuresNesting text.now answer.new result }

@@ -8,7 +8,7 @@ ghost use Rattle.wgsl_choices.specs.Choices.{nothing, or};
 
 pub use numbers::{read_size, read_width};
 
-/// What a user chooses of the layout. Each part may be left open.
+/// The choices of a user for the layout. Each part may be left open.
 #[derive(Clone, Copy, Debug, PartialEq, Eq)]
 pub struct Choices {
     /// How many columns a line has at most. With 0 no line is broken.
@@ -23,14 +23,14 @@ pub struct Choices {
     pub newlines: Option<Newlines>,
 }
 
-/// What a line is indented with.
+/// The characters that a line is indented with.
 #[derive(Clone, Copy, Debug, PartialEq, Eq)]
 pub enum IndentStyle {
     Spaces,
     Tab,
 }
 
-/// What ends a line.
+/// The line break at the end of each line.
 #[derive(Clone, Copy, Debug, PartialEq, Eq)]
 pub enum Newlines {
     /// What ends the first line of the text.
@@ -40,7 +40,7 @@ pub enum Newlines {
 }
 
 impl Choices {
-    /// Each part is left open.
+    /// Returns choices of which each part is left open.
     pub fn none() -> Choices
         ensures { result ≡ nothing }
     {
@@ -53,7 +53,7 @@ impl Choices {
         }
     }
 
-    /// These choices, and the other's where a part is left open.
+    /// Returns these choices, and the other's where a part is left open.
     pub fn or(self, other: Choices) -> Choices
         ensures { result ≡ or self other }
     {

@@ -3,14 +3,14 @@
 ghost use Rattle.std.specs.Prelude.{◌≡◌, ◌<◌, ◌≤◌, IfSome};
 ghost use Rattle.wgsl_choices.specs.Numbers.{number_in, width_of, size_of};
 
-/// The width that a text writes in decimal digits, from 0 to 9999.
+/// Returns the width that a text writes in decimal digits, from 0 to 9999.
 pub fn read_width(text: &str) -> Option<usize>
     ensures { result ≡ width_of text.now }
 {
     Some(usize::from(number_in(text, 0, 9999)?))
 }
 
-/// The size that a text writes in decimal digits, from 1 to 16.
+/// Returns the size that a text writes in decimal digits, from 1 to 16.
 pub fn read_size(text: &str) -> Option<u8>
     ensures { result ≡ size_of text.now }
 {

@@ -8,7 +8,7 @@ ghost use Rattle.wgsl_command.specs.View.{argument_view};
 
 use crate::options::{Flag, OptionName, Setting};
 
-/// What an argument is.
+/// The kind of an argument by itself, with what it holds.
 #[derive(Clone, Copy)]
 pub enum Argument<'a> {
     /// `--`.
@@ -27,7 +27,7 @@ pub enum Argument<'a> {
 }
 
 impl<'a> Argument<'a> {
-    /// What this argument is.
+    /// Returns what this argument is.
     pub fn of(text: &'a str) -> Self
         ensures { argument_view result ≡ argument_of text.now }
     {

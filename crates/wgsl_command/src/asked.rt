@@ -11,7 +11,7 @@ use crate::options::{Flag, Setting};
 use std::alloc::{AllocError, Global};
 use wgsl_choices::Choices;
 
-/// What the arguments so far ask for.
+/// The request of the arguments so far.
 #[derive(Drop)]
 pub struct Asked<'a> {
     pub help: bool,
@@ -25,7 +25,7 @@ pub struct Asked<'a> {
 }
 
 impl<'a> Asked<'a> {
-    /// What no arguments ask for.
+    /// Returns what no arguments ask for.
     pub fn nothing(alloc: Global) -> Self
         ensures { asked_view result ≡ plain.nothing }
     {
@@ -41,6 +41,7 @@ impl<'a> Asked<'a> {
         }
     }
 
+    /// Returns the same with a flag.
     pub fn with_flag(self, flag: Flag) -> Self
         ensures { asked_view result ≡ plain.with_flag (asked_view self.entry) flag }
     {
@@ -62,6 +63,7 @@ impl<'a> Asked<'a> {
         }
     }
 
+    /// Returns the same with the value of a setting; an `Err` where the setting has no such value.
     pub fn with_setting(self, setting: Setting, value: &'a str) -> Result<Self, UsageError<'a>>
         ensures { Means asked_view result
             (plain.with_setting (asked_view self.entry) setting value.now) }
@@ -83,6 +85,7 @@ impl<'a> Asked<'a> {
         }
     }
 
+    /// Returns the same with one more file, folder or `-` at the end.
     pub fn with_source(mut self, text: &'a str) -> Result<Self, AllocError>
         ensures { IfOk result (λ asked.
             asked_view asked ≡ plain.with_source (asked_view self.entry) text.now) }
@@ -91,7 +94,7 @@ impl<'a> Asked<'a> {
         Ok(self)
     }
 
-    /// The command that is asked for.
+    /// Returns the command that is asked for.
     pub fn command(self) -> Result<Command<'a>, AllocError>
         ensures { IfOk result (λ command.
             command_view command ≡ plain.command_asked (asked_view self.entry)) }

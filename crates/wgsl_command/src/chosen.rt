@@ -5,7 +5,7 @@ ghost use Rattle.wgsl_command.specs.Chosen as plain;
 
 use wgsl_choices::{Choices, IndentStyle, Newlines, read_size, read_width};
 
-/// These choices with the width that a value gives, if it gives one.
+/// Returns these choices with the width that a value gives, if it gives one.
 pub fn with_width(choices: Choices, value: &str) -> Option<Choices>
     ensures { result ≡ plain.with_width choices value.now }
 {
@@ -16,7 +16,7 @@ pub fn with_width(choices: Choices, value: &str) -> Option<Choices>
     })
 }
 
-/// These choices with the indentation that a value gives, if it gives one.
+/// Returns these choices with the indentation that a value gives, if it gives one.
 pub fn with_indent(choices: Choices, value: &str) -> Option<Choices>
     ensures { result ≡ plain.with_indent choices value.now }
 {
@@ -35,7 +35,7 @@ pub fn with_indent(choices: Choices, value: &str) -> Option<Choices>
     })
 }
 
-/// These choices with the ends of lines that a value gives, if it gives them.
+/// Returns these choices with the ends of lines that a value gives, if it gives them.
 pub fn with_newlines(choices: Choices, value: &str) -> Option<Choices>
     ensures { result ≡ plain.with_newlines choices value.now }
 {

@@ -9,7 +9,7 @@ use crate::reader::Reader;
 use std::alloc::Global;
 use wgsl_choices::Choices;
 
-/// What the program is to do.
+/// The task of the program.
 #[derive(Debug, Drop)]
 pub enum Command<'a> {
     /// Print how the program is used.
@@ -19,7 +19,7 @@ pub enum Command<'a> {
     Format(Request<'a>),
 }
 
-/// What is formatted, and how.
+/// A request to format files: which, and how.
 #[derive(Debug, Drop)]
 pub struct Request<'a> {
     pub mode: Mode,
@@ -32,7 +32,7 @@ pub struct Request<'a> {
     pub sources: Vec<Source<'a>>,
 }
 
-/// What becomes of a file whose text is not the formatted one.
+/// The choice what becomes of a file whose text is not the formatted one.
 #[derive(Clone, Copy, Debug, PartialEq, Eq)]
 pub enum Mode {
     /// It is written in place.
@@ -43,7 +43,7 @@ pub enum Mode {
     Diff,
 }
 
-/// Where a text is read.
+/// A place where a text is read.
 #[derive(Clone, Copy, Debug, PartialEq, Eq)]
 pub enum Source<'a> {
     StandardInput,
@@ -52,7 +52,7 @@ pub enum Source<'a> {
 }
 
 impl<'a> Source<'a> {
-    /// What this argument names: `-` the standard input.
+    /// Returns what this argument names: for `-` the standard input.
     pub fn of(text: &'a str) -> Self
         ensures { source_view result ≡ source_of text.now }
     {
@@ -64,7 +64,7 @@ impl<'a> Source<'a> {
     }
 }
 
-/// The command of these arguments, of which the program's name is none.
+/// Returns the command of these arguments, without the program's name.
 pub fn parse<'a>(alloc: Global, arguments: &'a [String]) -> Result<Command<'a>, CommandError<'a>>
     ensures { Gives command_view result (command_of (map string_bytes arguments.now)) }
 {

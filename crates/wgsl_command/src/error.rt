@@ -8,7 +8,7 @@ use crate::options::{Flag, Setting};
 use std::alloc::{AllocError, AllocFailed};
 use std::fmt;
 
-/// What is wrong with the arguments.
+/// A mistake in the arguments.
 #[derive(Clone, Copy, Debug, PartialEq, Eq)]
 pub enum UsageError<'a> {
     /// This argument begins with `-` and is no option.
@@ -37,7 +37,7 @@ impl fmt::Display for UsageError<'_> {
     }
 }
 
-/// Why the arguments could not be read.
+/// The reason why the arguments could not be read.
 #[derive(Clone, Copy, Debug, PartialEq, Eq)]
 pub enum CommandError<'a> {
     OutOfMemory,

@@ -23,7 +23,7 @@ const OPTIONS: [OptionName; 9] = [
 /// How many edits may lie between a word and the option that it was meant to be.
 const MOST_EDITS: usize = 2;
 
-/// The option whose word is the nearest to this one, where one is near.
+/// Returns the option whose word is the nearest to this one, where one is near.
 pub fn nearest(alloc: Global, word: &str) -> Result<Option<OptionName>, AllocError>
     ensures { IfOk result (IsNearest word.now) }
 {

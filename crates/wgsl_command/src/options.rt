@@ -33,7 +33,7 @@ pub enum OptionName {
 }
 
 impl OptionName {
-    /// The option of this word.
+    /// Returns the option of this word.
     pub fn of(word: &str) -> Option<OptionName>
         ensures { result ≡ option_of word.now }
     {
@@ -51,7 +51,7 @@ impl OptionName {
         }
     }
 
-    /// Its word.
+    /// Returns its word.
     pub fn word(self) -> &'static str
         ensures { result.now ≡ option_text self }
     {
@@ -63,7 +63,7 @@ impl OptionName {
 }
 
 impl Flag {
-    /// Its word.
+    /// Returns its word.
     pub fn word(self) -> &'static str
         ensures { result.now ≡ flag_text self }
     {
@@ -78,7 +78,7 @@ impl Flag {
 }
 
 impl Setting {
-    /// Its word.
+    /// Returns its word.
     pub fn word(self) -> &'static str
         ensures { result.now ≡ setting_text self }
     {
@@ -90,7 +90,7 @@ impl Setting {
         }
     }
 
-    /// The values that it takes.
+    /// Returns the values that it takes.
     pub fn values(self) -> &'static str
         ensures { result.now ≡ values_text self }
     {

@@ -12,7 +12,7 @@ use crate::error::{CommandError, UsageError};
 use crate::options::Setting;
 use std::alloc::Global;
 
-/// What the next argument is.
+/// The kinds of argument that may be next.
 #[derive(Clone, Copy)]
 pub enum Next {
     /// An option, a file, a folder or `-`.
@@ -23,7 +23,7 @@ pub enum Next {
     Sources,
 }
 
-/// What the arguments so far ask for, and what the next one is.
+/// The request of the arguments so far, and the kind of the next one.
 #[derive(Drop)]
 pub struct Reader<'a> {
     asked: Asked<'a>,
@@ -31,7 +31,7 @@ pub struct Reader<'a> {
 }
 
 impl<'a> Reader<'a> {
-    /// Before the first argument.
+    /// Returns the reader before the first argument.
     pub fn new(alloc: Global) -> Self
         ensures { reading_view result ≡ start }
     {
@@ -45,7 +45,7 @@ impl<'a> Reader<'a> {
         Reader { asked, next }
     }
 
-    /// After one more argument.
+    /// Returns the reader after one more argument.
     pub fn after(self, text: &'a str) -> Result<Self, CommandError<'a>>
         ensures { Gives reading_view result
             (after_one (asked_view self.entry.asked) self.entry.next text.now) }
@@ -61,7 +61,7 @@ impl<'a> Reader<'a> {
         }
     }
 
-    /// At the end of the arguments.
+    /// Returns the command at the end of the arguments.
     pub fn finish(self) -> Result<Command<'a>, CommandError<'a>>
         ensures { Gives command_view result
             (command_at self.entry.next (asked_view self.entry.asked)) }

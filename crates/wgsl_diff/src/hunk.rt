@@ -21,7 +21,7 @@ pub struct Hunk<'s, 'a> {
     pub lines: &'s [Line<'a>],
 }
 
-/// The hunks of a diff of which these are all lines.
+/// Returns the hunks of a diff of which these are all lines.
 pub fn hunks<'s, 'a>(alloc: Global, lines: &'s [Line<'a>]) -> Result<Vec<Hunk<'s, 'a>>, AllocError>
     ensures turns { IfOk result (λ hunks. Turns 0 0 (map hunk_view hunks.items)
         (old_lines (map line_view lines.now)) (new_lines (map line_view lines.now))) }

@@ -16,21 +16,21 @@ pub enum Line<'a> {
 }
 
 impl Line<'_> {
-    /// Whether both texts have it.
+    /// Returns whether both texts have it.
     pub fn is_kept(&self) -> bool
         ensures { result ≡ is_kept (line_view self.now) }
     {
         matches!(self, Line::Kept(_))
     }
 
-    /// Whether the old text has it.
+    /// Returns whether the old text has it.
     pub fn in_old(&self) -> bool
         ensures { result ≡ in_old (line_view self.now) }
     {
         !matches!(self, Line::Added(_))
     }
 
-    /// Whether the new text has it.
+    /// Returns whether the new text has it.
     pub fn in_new(&self) -> bool
         ensures { result ≡ in_new (line_view self.now) }
     {
@@ -38,7 +38,7 @@ impl Line<'_> {
     }
 }
 
-/// How many of these lines the old text has.
+/// Returns how many of these lines the old text has.
 pub fn old_count(lines: &[Line<'_>]) -> usize
     ensures count { result ≡ length (old_lines (map line_view lines.now)) }
     ensures bound { result ≤ length lines.now }
@@ -50,7 +50,7 @@ pub fn old_count(lines: &[Line<'_>]) -> usize
     count
 }
 
-/// How many of these lines the new text has.
+/// Returns how many of these lines the new text has.
 pub fn new_count(lines: &[Line<'_>]) -> usize
     ensures count { result ≡ length (new_lines (map line_view lines.now)) }
     ensures bound { result ≤ length lines.now }

@@ -6,7 +6,7 @@ ghost use Rattle.wgsl_diff.specs.View.{texts_of};
 
 use std::alloc::{AllocError, Global};
 
-/// The lines of a text, each with its LF.
+/// Returns the lines of a text, each with its LF.
 pub fn lines_of(alloc: Global, text: &[u8]) -> Result<Vec<&[u8]>, AllocError>
     ensures { IfOk result (λ lines. texts_of lines.items ≡ lines_of text.now) }
 {

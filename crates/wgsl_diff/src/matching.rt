@@ -14,7 +14,8 @@ const REACH: usize = 64;
 /// How many lines of each text change where there is none.
 const BLOCK: usize = 32;
 
-/// The lines of two texts, of which those are kept that both have and that are near each other.
+/// Returns the lines of two texts as those of a diff, of which those are kept that both have and
+/// that are near each other.
 pub fn script<'a>(
     alloc: Global,
     before: &[&'a [u8]],

@@ -4,7 +4,7 @@ ghost use Rattle.std.specs.Prelude.{◌≡◌};
 ghost use Rattle.std.specs.Option.{option_copied};
 ghost use Rattle.wgsl_editorconfig.specs.Globs as plain;
 
-/// Whether a glob is known to match each WGSL file.
+/// Returns whether a glob is known to match each WGSL file.
 pub fn matches_wgsl(glob: &str) -> bool
     ensures { result ≡ plain.matches_wgsl glob.now }
 {

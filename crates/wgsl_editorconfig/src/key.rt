@@ -3,7 +3,7 @@
 ghost use Rattle.std.specs.Prelude.{◌≡◌};
 ghost use Rattle.wgsl_editorconfig.specs.Keys.{is_word, key_of};
 
-/// What a property is of.
+/// The key of a property.
 #[derive(Clone, Copy, Debug, PartialEq, Eq)]
 pub enum Key {
     Root,
@@ -15,7 +15,7 @@ pub enum Key {
 }
 
 impl Key {
-    /// The key with this name.
+    /// Returns the key with this name.
     pub fn of(name: &str) -> Option<Key>
         ensures { result ≡ key_of name.now }
     {
@@ -37,7 +37,7 @@ impl Key {
     }
 }
 
-/// Whether a text is this word, in capitals or not.
+/// Returns whether a text is this word, in capitals or not.
 pub fn is_word(text: &str, word: &str) -> bool
     ensures { result ≡ is_word word.now text.now }
 {

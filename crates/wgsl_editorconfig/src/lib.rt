@@ -15,7 +15,7 @@ use line::{Line, without_mark};
 pub use reading::Properties;
 use reading::Reading;
 
-/// What a file with this text says of WGSL files.
+/// Returns what a file with this text says of WGSL files.
 pub fn properties(text: &str) -> Properties
     ensures { result ≡ properties_of text.now }
 {

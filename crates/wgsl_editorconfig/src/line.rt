@@ -7,7 +7,7 @@ ghost use Rattle.wgsl_editorconfig.specs.View.{line_view};
 
 use crate::key::Key;
 
-/// What a line is.
+/// A line of a file, by its kind.
 #[derive(Clone, Copy)]
 pub enum Line<'a> {
     /// The head of a section, with its glob.
@@ -19,7 +19,7 @@ pub enum Line<'a> {
 }
 
 impl<'a> Line<'a> {
-    /// What a line is, without the blanks around it.
+    /// Returns what a line is, without the blanks around it.
     pub fn of(text: &'a str) -> Self
         ensures { line_view result ≡ plain.line_of text.now }
     {
@@ -53,7 +53,7 @@ fn section_of(text: &str) -> Option<&str>
     text.strip_prefix('[')?.strip_suffix(']')
 }
 
-/// A text without the byte order mark that it may begin with.
+/// Returns a text without the byte order mark that it may begin with.
 pub fn without_mark(text: &str) -> &str
     ensures { result.now ≡ plain.without_mark text.now }
 {

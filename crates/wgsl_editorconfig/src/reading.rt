@@ -13,7 +13,7 @@ use crate::value::{
 };
 use wgsl_choices::{Choices, IndentStyle, Newlines};
 
-/// What a file says.
+/// The properties of WGSL files that a file gives.
 #[derive(Clone, Copy, Debug, PartialEq, Eq)]
 pub struct Properties {
     /// Files in the folders above are not read.
@@ -22,7 +22,7 @@ pub struct Properties {
     pub choices: Choices,
 }
 
-/// Where a line is.
+/// The part of the file that a line is in.
 #[derive(Clone, Copy)]
 pub enum Place {
     /// Before the first section.
@@ -33,7 +33,7 @@ pub enum Place {
     Skipped,
 }
 
-/// What the lines so far say, and where the next one is.
+/// The values of the lines so far, and the place of the next one.
 #[derive(Clone, Copy)]
 pub struct Reading {
     pub place: Place,
@@ -46,7 +46,7 @@ pub struct Reading {
 }
 
 impl Reading {
-    /// Before the first line.
+    /// Returns what is known before the first line.
     pub fn nothing() -> Self
         ensures { result ≡ plain.nothing }
     {
@@ -61,7 +61,7 @@ impl Reading {
         }
     }
 
-    /// After one more line.
+    /// Returns what is known after one more line.
     pub fn after(self, line: Line<'_>) -> Self
         ensures { result ≡ plain.after self (line_view line.entry) }
     {
@@ -128,7 +128,7 @@ impl Reading {
         }
     }
 
-    /// What all lines say, where these are all.
+    /// Returns what all lines say, where these are all.
     pub fn properties(self) -> Properties
         ensures { result ≡ plain.properties self }
     {

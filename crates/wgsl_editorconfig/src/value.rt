@@ -6,7 +6,7 @@ ghost use Rattle.wgsl_editorconfig.specs.Values as plain;
 use crate::key::is_word;
 use wgsl_choices::{IndentStyle, Newlines, read_size, read_width};
 
-/// How many columns an indentation has.
+/// The width of an indentation in columns.
 #[derive(Clone, Copy, Debug, PartialEq, Eq)]
 pub enum IndentSize {
     /// As many as a tab.
@@ -14,7 +14,7 @@ pub enum IndentSize {
     Columns(u8),
 }
 
-/// What a value says, where it is understood as this: `unset` says that there is none.
+/// Returns what a value says, where it is understood as this: `unset` says that there is none.
 pub fn said<T: Copy>(value: &str, understood: Option<T>) -> Option<Option<T>>
     ensures { result ≡ plain.said value.now understood }
 {
@@ -27,7 +27,7 @@ pub fn said<T: Copy>(value: &str, understood: Option<T>) -> Option<Option<T>>
     }
 }
 
-/// Whether files in the folders above are not read.
+/// Returns whether files in the folders above are not read.
 pub fn root_of(value: &str) -> Option<bool>
     ensures { result ≡ plain.root_of value.now }
 {
@@ -40,7 +40,7 @@ pub fn root_of(value: &str) -> Option<bool>
     }
 }
 
-/// What a line is indented with.
+/// Returns what a line is indented with.
 pub fn style_of(value: &str) -> Option<IndentStyle>
     ensures { result ≡ plain.style_of value.now }
 {
@@ -53,7 +53,7 @@ pub fn style_of(value: &str) -> Option<IndentStyle>
     }
 }
 
-/// How many columns an indentation has.
+/// Returns how many columns an indentation has.
 pub fn indent_size_of(value: &str) -> Option<IndentSize>
     ensures { result ≡ plain.indent_size_of value.now }
 {
@@ -64,14 +64,14 @@ pub fn indent_size_of(value: &str) -> Option<IndentSize>
     Some(IndentSize::Columns(columns))
 }
 
-/// How many columns a tab has.
+/// Returns how many columns a tab has.
 pub fn tab_width_of(value: &str) -> Option<u8>
     ensures { result ≡ plain.tab_width_of value.now }
 {
     read_size(value)
 }
 
-/// How many columns a line has at most.
+/// Returns how many columns a line has at most.
 pub fn line_length_of(value: &str) -> Option<usize>
     ensures { result ≡ plain.line_length_of value.now }
 {
@@ -81,7 +81,7 @@ pub fn line_length_of(value: &str) -> Option<usize>
     read_width(value)
 }
 
-/// What ends a line.
+/// Returns what ends a line.
 pub fn newlines_of(value: &str) -> Option<Newlines>
     ensures { result ≡ plain.newlines_of value.now }
 {

@@ -6,7 +6,7 @@ ghost use Rattle.wgsl_files.specs.Rewriting.{file_error_of};
 use crate::store::StoreError;
 use std::io;
 
-/// Why a file was not rewritten.
+/// The reason why a file was not rewritten.
 #[derive(Debug, Drop)]
 pub enum FileError {
     OutOfMemory,

@@ -9,7 +9,7 @@ use crate::format::{Format, FormatError};
 use crate::store::Store;
 use std::alloc::Global;
 
-/// What is done with a text that changes.
+/// The choice whether a text that changes is written.
 #[derive(Clone, Copy, Debug, PartialEq, Eq)]
 pub enum Mode {
     /// It is written.
@@ -18,7 +18,7 @@ pub enum Mode {
     Check,
 }
 
-/// What became of a file.
+/// The outcome of formatting a file.
 #[derive(Debug, Drop)]
 pub enum Rewritten {
     /// Its text becomes itself.

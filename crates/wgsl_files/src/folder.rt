@@ -6,7 +6,7 @@ ghost use Rattle.wgsl_files.specs.Folders.{is_below, is_wgsl_below, is_listed_be
 
 use std::alloc::{AllocError, Global};
 
-/// A list of this path alone.
+/// Returns a list of only this path.
 pub fn single(alloc: Global, path: &str) -> Result<Vec<String>, AllocError>
     ensures { IfOk result (λ paths. map string_bytes paths.items ≡ path.now ∷ []) }
 {
@@ -15,7 +15,7 @@ pub fn single(alloc: Global, path: &str) -> Result<Vec<String>, AllocError>
     Ok(paths)
 }
 
-/// The path of a folder without a `/` at its end.
+/// Returns the path of a folder without a `/` at its end.
 pub fn folder_of(path: &str) -> &str
     ensures { result.now ≡ folder_of path.now }
 {
@@ -25,7 +25,7 @@ pub fn folder_of(path: &str) -> &str
     }
 }
 
-/// Whether a path leads into a folder.
+/// Returns whether a path leads into a folder.
 pub fn is_below(folder: &str, path: &str) -> bool
     ensures { result ≡ is_below folder.now path.now }
 {
@@ -35,7 +35,7 @@ pub fn is_below(folder: &str, path: &str) -> bool
     }
 }
 
-/// Whether this is the path of a WGSL file of a folder, in which no name begins with `.`.
+/// Returns whether this is the path of a WGSL file of a folder, in which no name begins with `.`.
 pub fn is_wgsl_below(folder: &str, path: &str) -> bool
     ensures { result ≡ is_wgsl_below folder.now path.now }
 {
@@ -47,7 +47,8 @@ pub fn is_wgsl_below(folder: &str, path: &str) -> bool
     }
 }
 
-/// Whether a path is one to list for a folder: that of a WGSL file, or one that ends with `/`.
+/// Returns whether a path is one to list for a folder: that of a WGSL file, or one that ends with
+/// `/`.
 pub fn is_listed_below(folder: &str, path: &str) -> bool
     ensures { result ≡ is_listed_below folder.now path.now }
 {

@@ -5,7 +5,7 @@ ghost use Rattle.wgsl_files.specs.Rewriting.{IsRefusal};
 
 use std::alloc::Global;
 
-/// Why a text was not formatted.
+/// The reason why a text was not formatted.
 #[derive(Debug, Drop)]
 pub enum FormatError {
     OutOfMemory,
@@ -21,6 +21,7 @@ pub trait Format {
     /// Whether a text is refused with a message.
     ghost refuses: { Self → List ℕ → List ℕ → Type 0 };
 
+    /// Formats a text.
     fn format(&self, alloc: Global, text: &[u8]) -> Result<Vec<u8>, FormatError>
         ensures ok { IfOk result (λ formatted. becomes self.now text.now formatted.items) }
         ensures err { IfErr result (λ e. IsRefusal (refuses self.now text.now) e) };

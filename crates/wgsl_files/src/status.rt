@@ -3,7 +3,7 @@
 ghost use Rattle.std.specs.Prelude.{◌≡◌, max};
 ghost use Rattle.wgsl_files.specs.Statuses.{code_of};
 
-/// How a run ends. Of two that are called for the later one here holds.
+/// The status with which a run ends. Of two that are called for the later one here holds.
 #[derive(Clone, Copy, Debug, PartialEq, Eq)]
 pub enum Status {
     Success,
@@ -19,7 +19,7 @@ pub enum Status {
 }
 
 impl Status {
-    /// The number that a process ends with.
+    /// Returns the number that a process ends with.
     pub fn code(self) -> u8
         ensures { result ≡ code_of self }
     {
@@ -33,7 +33,7 @@ impl Status {
         }
     }
 
-    /// The higher of two.
+    /// Returns the higher of two.
     pub fn or(self, other: Status) -> Status
         ensures { code_of result ≡ max (code_of self) (code_of other) }
     {

@@ -9,7 +9,7 @@ ghost use Rattle.wgsl_files.specs.Reading.{IsMissing};
 use std::alloc::{AllocError, AllocFailed, Global};
 use std::io;
 
-/// Why a file was not read or written.
+/// The reason why a file was not read or written.
 #[derive(Clone, Copy, Debug)]
 pub enum StoreError {
     OutOfMemory,
@@ -43,27 +43,27 @@ impl From<io::Error> for StoreError {
     }
 }
 
-/// Where files are kept.
+/// A place where files are kept.
 pub trait Store {
     /// What it holds.
     ghost files: { Self → Files };
 
-    /// The paths of the files to format for a path that a user names. Of a folder these are the
-    /// paths of all files in it and in its folders whose names end with `.wgsl`, in the order of
-    /// their bytes, but none with a name that begins with `.` below the named one. Of anything else
-    /// it is the path itself. For a folder that cannot be read its path is listed with a `/` at its
-    /// end, where no file is: reading it gives the error.
+    /// Returns the paths of the files to format for a path that a user names. Of a folder these are
+    /// the paths of all files in it and in its folders whose names end with `.wgsl`, in the order
+    /// of their bytes, but none with a name that begins with `.` below the named one. Of anything
+    /// else it is the path itself. For a folder that cannot be read its path is listed with a `/`
+    /// at its end, where no file is: reading it gives the error.
     fn list(&self, alloc: Global, path: &str) -> Result<Vec<String>, StoreError>
         ensures listing { IfOk result (λ paths.
             IsListing (files self.now) path.now (map string_bytes paths.items)) };
 
-    /// A path from the root of the file system to the same file, or the path itself where none is
-    /// found.
+    /// Returns a path from the root of the file system to the same file, or the path itself where
+    /// none is found.
     fn absolute(&self, alloc: Global, path: &str) -> Result<String, AllocError>
         ensures { IfOk result (λ found.
             IsAbsolute (files self.now) path.now (string_bytes found)) };
 
-    /// The bytes of the file at a path. It fails where there is no file.
+    /// Reads the bytes of the file at a path. It fails where there is no file.
     fn read(&self, alloc: Global, path: &str) -> Result<Vec<u8>, StoreError>
         ensures bytes { IfOk result (λ bytes. Holds (files self.now) path.now bytes.items) }
         ensures missing { IfErr result (λ e. IsMissing (files self.now) path.now e) };

@@ -14,7 +14,7 @@ use std::fs::{DirEntry, ReadDir};
 use std::io;
 use std::rt::Files;
 
-/// The WGSL files below a folder, sorted. A folder that cannot be read is listed too.
+/// Lists the WGSL files below a folder, sorted. A folder that cannot be read is listed too.
 pub fn below<R: Files + AllocGlobal + Clone + Drop>(
     rt: &R,
     alloc: Global,
@@ -147,7 +147,7 @@ fn is_folder<R: Files>(entry: &DirEntry<R, Global>) -> bool {
     }
 }
 
-/// Whether a path leads to a regular file, through links too. One of which that cannot be told is
+/// Whether a path leads to a regular file, through links too. One of which that is not known is
 /// taken for a file, since reading it gives the error.
 fn leads_to_file<R: Files>(rt: &R, path: &str) -> bool {
     match std::fs::metadata(rt, path) {

@@ -1,4 +1,4 @@
--- What was told to one writer is what went out, where the other writer is left alone.
+-- What was sent to one writer is what went out, where the other writer is left alone.
 use Rattle.std.proofs.Common.{◌≡◌, inl, inr, ℕ, zero, suc, List, [], take, Option, None, refl, subst}
 use Rattle.std.proofs.KnownBytes.{Appends-nil}
 use Rattle.std.specs.Io.KnownBytes.{Appends}
@@ -53,7 +53,7 @@ told_to_errors text status sent answer old new told added =
     let whole = goes_to_errors text status sent answer None old new told added in
     (whole.0, whole.1, whole.2, whole.4)
 
--- the line that tells of a failed allocation is for the errors alone
+-- the line that reports a failed allocation is for the errors alone
 pub memory_told : (end : ProcessOutput) (known : Option (List ℕ)) → GoesOut out_of_memory end
     → Appends known known end.output
 memory_told end known (inl whole) = rw whole (Appends-nil known)

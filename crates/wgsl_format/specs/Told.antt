@@ -1,4 +1,4 @@
--- What one writer was told.
+-- What one writer was sent.
 use Rattle.std.specs.Prelude.{◌≡◌, ◌⊎◌, ℕ, List, take}
 
 -- the text was sent whole and the answer is the status, or a beginning of it was and the answer is

@@ -7,7 +7,7 @@ ghost use Rattle.wgsl_format.specs.Report.{outcome_of};
 use crate::report::Report;
 use std::alloc::{AllocError, Global};
 
-/// What a program makes of the bytes that it reads.
+/// A formatter of the bytes that a program reads.
 pub trait Formatter {
     /// What its text is made of.
     type Kept: Drop;
@@ -18,7 +18,7 @@ pub trait Formatter {
     /// What holds of these bytes and the text that it writes of them with status 0.
     ghost is_made_of: { Self → List ℕ → List ℕ → Type 0 };
 
-    /// What the source asks to be written.
+    /// Returns what is to be written for the source.
     fn report(&self, alloc: Global, source: &[u8]) -> Result<Report<Self::Kept>, AllocError>
         ensures due { IfOk result (λ report. writes self.now source.now (outcome_of report)) }
         ensures made { IfOk result (λ report. (outcome_of report).status ≡ 0 →

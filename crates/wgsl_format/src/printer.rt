@@ -9,7 +9,7 @@ use std::alloc::{AllocError, Global};
 use wgsl_parser::parse_within;
 use wgsl_tree_unit::TranslationUnit;
 
-/// Of a module its unit is printed, and kept.
+/// The formatter of `wgslfmt`: it prints the unit of a module, and keeps the unit.
 #[derive(Clone, Copy, Debug)]
 pub struct Printer {
     /// How many levels deep a module may nest (see `parse_within`): a deeper one is out of memory.

@@ -1,4 +1,4 @@
-//! What a program has to tell of its input.
+//! What a program reports of its input.
 
 ghost use Rattle.std.specs.Prelude.{◌≡◌, ◌<◌, ◌++◌, codes, IfOk};
 ghost use Rattle.std.specs.Io.KnownBytes.{Appends};
@@ -13,7 +13,7 @@ use std::alloc::{AllocError, Global};
 use std::io::Write;
 use wgsl_error::{Error, ErrorKind};
 
-/// What is to be written, and the status that goes with it.
+/// The outcome of an input: what is to be written, and the status that goes with it.
 #[derive(Drop)]
 pub enum Report<K> {
     /// The text for the output, with status 0, and what it was made of: who ends the program need

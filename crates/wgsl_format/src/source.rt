@@ -1,4 +1,4 @@
-//! The byte order mark of a source, and the line ends of its formatted text.
+//! The byte order mark of a source, and the line breaks of its formatted text.
 
 ghost use Rattle.std.specs.Prelude.{◌≡◌, ◌+◌, ◌<◌, ◌≤◌, ◌^◌, ◌++◌, chars, length, string_bytes, IfOk};
 ghost use Rattle.wgsl_model.specs.Tokens.TokenList.{width};

@@ -15,8 +15,9 @@ use std::alloc::Global;
 use std::io::{Read, Write};
 use wgsl_tree_unit::TranslationUnit;
 
-/// `run` where the program was given no arguments, with what it told and the unit that this was
-/// printed from: the end of a program frees them sooner than a drop. Otherwise nothing is read.
+/// Runs the program, as `run` does, where it was given no arguments, and returns with the status
+/// what it wrote and the unit that this was printed from: the end of a program frees them sooner
+/// than a drop. Otherwise nothing is read.
 pub fn start_keeping<R: Read, W: Write, E: Write>(
     alloc: Global,
     format: &Printer,

@@ -13,14 +13,14 @@ use std::io::{ErrorKind, Read, Write};
 /// The status where a read, a write or a flush failed.
 pub(crate) const FAILED: u8 = 4;
 
-/// Why the input could not be read.
+/// The reason why the input could not be read.
 #[derive(Clone, Copy, Debug, PartialEq, Eq)]
 pub enum ReadError {
     OutOfMemory,
     Failed,
 }
 
-/// All that the reader gives. A read that fails is not tried again.
+/// Reads all that the reader gives. A read that fails is not tried again.
 pub fn read_all<R: Read>(alloc: Global, input: &mut R) -> Result<Vec<u8>, ReadError>
     ensures bytes { IfOk result (λ all. IsInput (R.remaining input.old) all.items) }
     ensures end { OnOk result (IsAtEnd (R.remaining input.new)) }
@@ -69,7 +69,7 @@ pub(crate) fn tell<W: Write>(writer: &mut W, text: &[u8], status: u8) -> u8
     }
 }
 
-/// Tells that an allocation failed: status 3, or 4 where the line could not be written.
+/// Reports that an allocation failed: status 3, or 4 where the line could not be written.
 pub fn refuse_memory<E: Write>(errors: &mut E) -> u8
     ensures { (end : ProcessOutput) × GoesOut out_of_memory end × (result ≡ end.status)
         × Appends (E.contents errors.old) (E.contents errors.new) end.errors }

@@ -21,15 +21,15 @@ use wgsl_read_dialect::check_syntax;
 /// How many rules of the grammar at most are inside one another for each level.
 const RULES: usize = 8;
 
-/// The formatted text of a module: its tokens and its comments as they are, in order, and between
-/// them the white space that the rules of the layout ask for, with lines of up to 100 columns where
-/// a line break at a bracket can make them so, and four spaces a level. A byte order mark at the
-/// start stays, and every line ends with CR LF if the first line of the source does, otherwise with
-/// LF, in block comments too. If a block comment begins a line and each of its later lines begins
-/// with `*`, these lines begin one column after its first. Names are not checked, so a text with
-/// reserved words or with attributes, address spaces or severities that `parse_str` does not know
-/// is formatted too. Otherwise the error is the first token that can't be where it is; else the
-/// text that is no token; else that the text ends too early.
+/// Returns the formatted text of a module: its tokens and its comments as they are, in order, and
+/// between them the white space that the rules of the layout ask for, with lines of up to 100
+/// columns where a line break at a bracket can make them so, and four spaces a level. A byte order
+/// mark at the start stays, and every line ends with CR LF if the first line of the source does,
+/// otherwise with LF, in block comments too. If a block comment begins a line and each of its later
+/// lines begins with `*`, these lines begin one column after its first. Names are not checked, so a
+/// text with reserved words or with attributes, address spaces or severities that `parse_str` does
+/// not know is formatted too. Otherwise the error is the first token that can't be where it is;
+/// else the text that is no token; else that the text ends too early.
 pub fn tidy(alloc: Global, source: &str) -> Result<String, Error>
     ensures accepted { IfOk result (λ _. IsModuleInSyntax (unmarked (chars source.now))) }
     ensures refused { IfErr result (λ e.
@@ -47,8 +47,8 @@ pub fn tidy(alloc: Global, source: &str) -> Result<String, Error>
     tidy_with(alloc, source, Layout::standard())
 }
 
-/// `tidy` with lines of another width, another indentation, or other line ends. Every `Layout` is
-/// accepted.
+/// Formats a module as `tidy` does, with lines of another width, another indentation, or other line
+/// breaks. Every `Layout` is accepted.
 pub fn tidy_with(alloc: Global, source: &str, layout: Layout) -> Result<String, Error>
     ensures accepted { IfOk result (λ _. IsModuleInSyntax (unmarked (chars source.now))) }
     ensures refused { IfErr result (λ e.
@@ -64,9 +64,9 @@ pub fn tidy_with(alloc: Global, source: &str, layout: Layout) -> Result<String, 
     tidy_within(alloc, source, layout, usize::MAX)
 }
 
-/// `tidy_with` on a stack that grows with a depth: where brackets, blocks and template lists nest
-/// deeper than a number of levels, the error is of the kind `OutOfMemory`. They are counted by the
-/// rules of the grammar, so a few more levels may be accepted.
+/// Formats a module as `tidy_with` does, on a stack that grows with a depth: where brackets, blocks
+/// and template lists nest deeper than a number of levels, the error is of the kind `OutOfMemory`.
+/// They are counted by the rules of the grammar, so a few more levels may be accepted.
 pub fn tidy_within(
     alloc: Global,
     source: &str,

@@ -9,7 +9,7 @@ use crate::tidied::tidy_within;
 use std::alloc::{AllocError, Global};
 use wgsl_format_layout::Layout;
 
-/// A module is formatted, by the standard layout.
+/// The formatter of `wgsltidy` for its standard input: it formats a module by the standard layout.
 #[derive(Clone, Copy, Debug)]
 pub struct Tidier {
     /// How many levels deep a module may nest (see `tidy_within`): a deeper one is out of memory.

@@ -40,7 +40,7 @@ memory_start (Ok version) old new status told = inr told
 memory_start (Ok (format request)) old new status told = inr told
 memory_start (Err e) old new status told = inr told
 
--- what is told of arguments that are no command
+-- what is reported of arguments that are not a command
 pub usage_start : (meant : Result Command UsageError) (e : UsageError) (old new : World) (status : ℕ)
     → meant ≡ Err e
     → ((hint : Option OptionName) × IsHint e hint × Says (usage_text e hint) 2 old.errors new.errors status)

@@ -1,4 +1,4 @@
--- What comes of a text, and what is told of it.
+-- What comes of a text, and what is reported of it.
 use Rattle.std.specs.Prelude.{◌≡◌, ℕ, Bool, true, false, List, [], ◌++◌, Option, Some, None, codes, string_bytes}
 use Rattle.std.specs.Borrow.{Bor}
 use Rattle.wgsl_command.specs.declared.command.Mode.{Mode}
@@ -43,7 +43,7 @@ is_failed (event.Refused message) = true
 is_failed (event.Failed reason) = true
 is_failed event.OutOfMemory = true
 
--- what the output has of it: a text that is printed, or that tells of a change
+-- what the output has of it: a text that is printed, or that reports a change
 abbrev pub shown_by : Event → List ℕ
 shown_by event.Unchanged = []
 shown_by event.Formatted = []
@@ -79,14 +79,14 @@ pub record IsDiff (name before after text : List ℕ) : Type 0 where
   pub turns : Turns 0 0 hunks (lines_of before) (lines_of after)
   pub printed : text ≡ print_diff name hunks
 
--- what tells of a change: the name of the file, or a diff
+-- what reports a change: the name of the file, or a diff
 abbrev pub IsShown : Mode → List ℕ → List ℕ → List ℕ → List ℕ → Type 0
 IsShown Write name before after text = ⊥
 IsShown Check name before after text = text ≡ line_of name
 IsShown Diff name before after text = IsDiff name before after text
 
--- what comes of a text that changes: the file has the new one, or what tells of the change, unless
--- an allocation failed
+-- what comes of a text that changes: the file has the new one, or what reports the change,
+-- unless an allocation failed
 abbrev pub IsToldOfChange : Mode → List ℕ → List ℕ → List ℕ → Event → Type 0
 IsToldOfChange mode name before after event.Unchanged = ⊥
 IsToldOfChange mode name before after event.Formatted = mode ≡ Write

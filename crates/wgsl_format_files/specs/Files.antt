@@ -10,7 +10,7 @@ use Rattle.wgsl_format_files.specs.declared.event.Event.{Event}
 use Rattle.wgsl_format_files.specs.declared.event.Event.TheVariants as event
 use Rattle.wgsl_format_files.specs.Events.{IsShown, store_mode_of}
 
--- the text of the file changes, which is written or told
+-- the text of the file changes, which is written or reported
 pub record Changes (becomes : List ℕ → List ℕ → Type 0) (mode : Mode)
     (Tells : List ℕ → List ℕ → Type 0) (old new : Files) (path : List ℕ) : Type 0 where
   pub before : List ℕ
@@ -19,10 +19,8 @@ pub record Changes (becomes : List ℕ → List ℕ → Type 0) (mode : Mode)
   pub told : Tells before after
 
 -- What comes of the file at a path: it is kept; or it is written, and only where files are written;
--- or it would change, and
--- what is shown tells of that, and nothing changes; or it is an error, and nothing changes: its
--- text is refused, or there is no
--- file at the path, or an allocation failed.
+-- or it would change, and what is shown reports that, and nothing changes; or it is an error, and
+-- nothing changes: its text is refused, or there is no file at the path, or an allocation failed.
 abbrev pub ComesOfFile : (List ℕ → List ℕ → Type 0) → (List ℕ → List ℕ → Type 0) → Mode → Files
     → Files → List ℕ → Event → Type 0
 ComesOfFile becomes refuses mode old new path event.Unchanged = IsKept becomes old new path

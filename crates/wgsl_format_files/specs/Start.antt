@@ -53,11 +53,11 @@ pub record Tells (text : List ℕ) (code : ℕ) (old new : World) (status : ℕ)
   pub files : new.files ≡ old.files
   pub left : new.left ≡ old.left
 
--- what is told where an allocation failed
+-- what is reported where an allocation failed
 abbrev pub memory_text : List ℕ
 memory_text = codes "wgsltidy: error: out of memory\n"
 
--- what is told where an argument is not UTF-8
+-- what is reported where an argument is not UTF-8
 abbrev pub argument_text : List ℕ
 argument_text = codes "wgsltidy: error: an argument is not UTF-8\n"
 
@@ -68,7 +68,7 @@ IsHint (missing_value setting) hint = hint ≡ None
 IsHint (unexpected_value flag) hint = hint ≡ None
 IsHint (invalid_value setting value) hint = hint ≡ None
 
--- what is told of arguments that are no command
+-- what is reported of arguments that are not a command
 abbrev pub usage_text : UsageError → Option OptionName → List ℕ
 usage_text e (Some name) = codes "wgsltidy: error: "
     ++ (print_usage_error e ++ (codes ", did you mean `" ++ (option_text name ++ codes "`?\n")))
@@ -100,7 +100,7 @@ is_filter request = is_write request.mode
 abbrev pub name_of : Request → List ℕ
 name_of request = unwrap_or request.stdin_path (codes "<stdin>")
 
--- the standard input is formatted to the output, or the fault is told; no file changes
+-- the standard input is formatted to the output, or the fault is reported; no file changes
 pub record IsFilterRun (old new : World) (status : ℕ) : Type 0 where
   pub runs : filter.Runs Tidies IsTidied old.left new.left
       (λ contents. contents) old.output new.output old.errors new.errors status

@@ -8,8 +8,8 @@ use std::alloc::{AllocError, Global};
 use wgsl_command::Mode;
 use wgsl_diff::{hunks, lines_of, push_diff, script};
 
-/// What comes of a file of this name whose text changes from one to another. If files are written,
-/// it was.
+/// Returns what comes of a file of this name whose text changes from one to another. If files are
+/// written, it was.
 pub fn changed(alloc: Global, name: &str, mode: Mode, before: &[u8], after: &[u8]) -> Event
     ensures { IsToldOfChange mode name.now before.now after.now result }
 {

@@ -10,7 +10,7 @@ use wgsl_choices::Choices;
 use wgsl_editorconfig::{Properties, properties};
 use wgsl_files::{Store, StoreError};
 
-/// What is chosen for the file at a path: what these choices leave open is as the nearest
+/// Returns what is chosen for the file at a path: what these choices leave open is as the nearest
 /// `.editorconfig` file says, in the folder of the file or one above it.
 pub fn choices_for<S: Store>(
     alloc: Global,

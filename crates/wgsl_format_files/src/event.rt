@@ -7,7 +7,7 @@ ghost use Rattle.wgsl_format_files.specs.Events.{shown_by, message_of, pair_copi
 
 use wgsl_files::Status;
 
-/// What comes of the text of a file, or of the standard input.
+/// The outcome of the text of a file, or of the standard input.
 #[derive(Debug, Drop)]
 pub enum Event {
     /// Its text is the formatted one.
@@ -26,7 +26,7 @@ pub enum Event {
 }
 
 impl Event {
-    /// The status that it calls for.
+    /// Returns the status that it calls for.
     pub fn status(&self) -> Status
         ensures { result ≡ status_of self.now }
     {
@@ -39,7 +39,7 @@ impl Event {
         }
     }
 
-    /// Whether the text changes, or would.
+    /// Returns whether the text changes, or would.
     pub fn is_changed(&self) -> bool
         ensures { result ≡ is_changed self.now }
     {
@@ -49,7 +49,7 @@ impl Event {
         )
     }
 
-    /// Whether it is an error.
+    /// Returns whether it is an error.
     pub fn is_failed(&self) -> bool
         ensures { result ≡ is_failed self.now }
     {
@@ -59,7 +59,7 @@ impl Event {
         )
     }
 
-    /// What the output is to have of it.
+    /// Returns what the output is to have of it.
     pub fn shown(&self) -> &[u8]
         ensures { result.now ≡ shown_by self.now }
     {
@@ -69,7 +69,7 @@ impl Event {
         }
     }
 
-    /// What follows the name of its file in the message, in two parts.
+    /// Returns what follows the name of its file in the message, in two parts.
     pub fn message(&self) -> Option<(&str, &str)>
         ensures { pair_copied result ≡ message_of self.now }
     {

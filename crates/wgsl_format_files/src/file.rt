@@ -11,8 +11,8 @@ use std::io;
 use wgsl_command::Mode;
 use wgsl_files::{FileError, Format, Rewritten, Store, rewrite};
 
-/// What comes of the file at a path. It is only written if files are written and it changes, and it
-/// fails only where there is no file.
+/// Formats the file at a path, and returns what comes of it. It is only written if files are
+/// written and it changes, and it fails only where there is no file.
 pub fn format_file<S: Store, F: Format>(
     alloc: Global,
     store: &mut S,
@@ -44,7 +44,7 @@ fn store_mode(mode: Mode) -> wgsl_files::Mode
     }
 }
 
-/// What comes of a file that could not be read or written.
+/// Returns what comes of a file that could not be read or written.
 pub fn failed(alloc: Global, error: io::Error) -> Event
     ensures { IsFailure result }
 {

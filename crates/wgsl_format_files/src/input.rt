@@ -11,8 +11,8 @@ use wgsl_command::Mode;
 use wgsl_files::{Format, FormatError};
 use wgsl_format::{ReadError, read_all};
 
-/// What comes of all that a reader gives, as that of a file of this name. Where files are written
-/// the formatted text is for the output.
+/// Formats all that a reader gives, and returns what comes of it, as of a file of this name. Where
+/// files are written the formatted text is for the output.
 pub fn format_input<F: Format, R: Read>(
     alloc: Global,
     format: &F,

@@ -10,7 +10,7 @@ use std::alloc::{AllocError, Global};
 use wgsl_command::Source;
 use wgsl_files::{Store, StoreError};
 
-/// Where a text is read.
+/// A place where a text is read.
 #[derive(Debug, Drop)]
 pub enum Input {
     StandardInput,
@@ -18,7 +18,7 @@ pub enum Input {
 }
 
 impl Input {
-    /// Its name in messages, where the standard input has this one.
+    /// Returns its name in messages, where the standard input has this one.
     pub fn name<'n>(&'n self, stdin_name: &'n str) -> &'n str
         ensures { result.now ≡ name_in stdin_name.now (input_view self.now) }
     {
@@ -29,7 +29,7 @@ impl Input {
     }
 }
 
-/// The inputs for these sources, in order: of a folder its files.
+/// Returns the inputs for these sources, in order: of a folder its files.
 pub fn inputs_of<S: Store>(
     alloc: Global,
     store: &S,

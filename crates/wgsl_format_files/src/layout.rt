@@ -17,7 +17,7 @@ const WIDTH: usize = 100;
 /// How many columns a level has where that is left open.
 const COLUMNS: u8 = 4;
 
-/// Whether nothing is chosen.
+/// Returns whether nothing is chosen.
 pub fn is_nothing(choices: Choices) -> bool
     ensures { result ≡ is_nothing choices }
 {
@@ -28,7 +28,7 @@ pub fn is_nothing(choices: Choices) -> bool
         && choices.newlines.is_none()
 }
 
-/// The layout of what is chosen, and what is standard where a part is left open.
+/// Returns the layout of what is chosen, and what is standard where a part is left open.
 pub fn layout_of(choices: Choices) -> Layout
     ensures { layout_view result ≡ layout_of choices }
 {

@@ -28,7 +28,7 @@ use wgsl_command::{
 use wgsl_files::{Status, Store};
 use wgsl_format::{Tidier, run};
 
-/// Runs `wgsltidy` with these arguments, of which its name is none, over these files and streams.
+/// Runs `wgsltidy` with these arguments, without its own name, over these files and streams.
 /// Returns its status.
 pub fn start<S: Store, R: Read, W: Write, E: Write>(
     alloc: Global,

@@ -28,7 +28,7 @@ use wgsl_choices::Choices;
 use wgsl_command::Mode;
 use wgsl_files::{Status, Store};
 
-/// How files are formatted.
+/// The way in which files are formatted.
 #[derive(Clone, Copy, Debug)]
 pub struct How<'n> {
     pub mode: Mode,

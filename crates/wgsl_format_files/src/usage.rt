@@ -1,6 +1,6 @@
 //! What the program says of itself.
 
-/// How the program is used.
+/// The text of `--help`: how the program is used.
 pub const HELP: &str = "\
 Usage: wgsltidy [OPTIONS] [FILE | FOLDER]...
 

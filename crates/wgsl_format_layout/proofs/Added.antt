@@ -187,7 +187,7 @@ level_more a b c depth m p q e =
     (adds_both a b c (indentation layout depth) (level layout) p
     (subst (λ (l : Layout). Adds b (level (layout_view l)) c) p.line.layout q))
 
--- a line end and the levels of the next line
+-- a line break and the levels of the next line
 pub break_added : (a b c : Text) (ends : List ℕ) (depth : ℕ) → Adds a ends b
     → Adds b (indentation (layout_view b.line.layout) depth) c
     → Adds a (ends ++ indentation (layout_view a.line.layout) depth) c

@@ -183,6 +183,6 @@ block_ends (suc depth) (c ∷ (d ∷ cs)) = two_ends (suc depth) c d cs (c == 47
     (c == 42 && d == 47) refl refl (block_ends (suc (suc depth)) cs) (block_ends depth cs)
     (block_ends (suc depth) (d ∷ cs))
 
--- what is told of the end of a comment
+-- what is known of the end of a comment
 pub told_end : (text : List ℕ) (r : Option (List ℕ)) → r ≡ after_block 0 text → Ends (in_comment 0 text) text r
 told_end text r e = subst (Ends (in_comment 0 text) text) (sym e) (block_ends 0 text)

@@ -18,7 +18,7 @@ several_put c (p ∷ ps) = refl
 several_passes : PassesComments has_several
 several_passes = record { over_character = several_put; over_comment = λ class n ps h. rw h refl }
 
--- what is so after however many line ends is so after the comments
+-- what is so after however many line breaks is so after the comments
 pub several_after : (several : Bool) (following : ℕ → List Piece)
     → ((m : ℕ) → has_several (following m) ≡ several) → (p : Place) (n : ℕ) (text : List ℕ)
     → has_several (comments following p n text) ≡ several

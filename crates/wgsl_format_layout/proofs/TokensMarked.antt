@@ -20,7 +20,7 @@ use Rattle.wgsl_format_layout.proofs.SeveralAfter.{first_there, several_after}
 
 -- ---- the flags are right
 
--- the line ends before a token count
+-- the line breaks before a token count
 shift : (x here left : Bool) → ((x || here) || left) ≡ ((x && true) || (here || left))
 shift true here left = refl
 shift false here left = refl

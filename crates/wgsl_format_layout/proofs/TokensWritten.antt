@@ -125,7 +125,7 @@ parted_spot old t right text n new w ps f h =
     w.depth class right column (at_first b)) (can_opens old t h).in_line)
     ∙ parted_at (state_view old.state) w.depth class right column (opens_right old t right ps f h)
 
--- written item by item it has a line end at once
+-- written item by item it has a line break at once
 pub token_parts : (old : Output) (t : MarkedToken) (right : Role) (text : List ℕ) (n : ℕ) (new : Output)
     → IsWritten old t right text n new
     → (ps : List Piece) → FitsBefore old t right ps → can_part old t ≡ true → Parts new ps

@@ -1,13 +1,13 @@
--- What is told of the lines of a block comment.
+-- What is known of the lines of a block comment.
 use Rattle.std.specs.Prelude.{◌≡◌, ℕ, true, false, List, ◌∷◌, ◌++◌}
 use Rattle.wgsl_model_tidy.specs.Shown.{without_returns, with_front}
 
--- a text has no line end: it stays as it is
+-- a text has no line break: it stays as it is
 pub record IsOneLine (text : List ℕ) : Type 0 where
   pub plain : without_returns text ≡ text
   pub moved : (front : List ℕ) → with_front front false text ≡ text
 
--- the first line of a text, without CR at its end, and what follows its line end
+-- the first line of a text, without CR at its end, and what follows its line break
 pub record IsFirstLine (text line after : List ℕ) : Type 0 where
   pub plain : without_returns text ≡ line ++ (10 ∷ without_returns after)
   pub moved : (front rest : List ℕ)

@@ -1,4 +1,4 @@
--- What is told of a comment at the front of a text.
+-- What is known of a comment at the front of a text.
 use Rattle.std.specs.Prelude.{◌≡◌, ℕ, ◌+◌, ◌&&◌, ◌==◌, Bool, List, ◌∷◌, chars}
 use Rattle.wgsl_model.specs.Tokens.Trivia.{outside}
 use Rattle.wgsl_model_tidy.specs.Pieces.{Piece, comments, line_ends_at}
@@ -18,7 +18,7 @@ abbrev pub IsNone : List ℕ → Type 0
 IsNone text = (b : ℕ → List Piece) (n c : ℕ) (cs : List ℕ) → text ≡ c ∷ cs
     → comments b outside n text ≡ comments b outside (n + line_ends_at c cs) cs
 
--- pieces after m line ends: a token follows in the line exactly where m is 0 and there is a next
+-- pieces after m line breaks: a token follows in the line exactly where m is 0 and there is a next
 -- token
 abbrev pub MayFollow : (ℕ → List Piece) → Bool → Type 0
 MayFollow following has_next = (m : ℕ) → is_followed (following m) ≡ (m == 0 && has_next)

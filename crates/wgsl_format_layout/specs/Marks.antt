@@ -24,7 +24,7 @@ AreMarked source ts ms = ⊥
 
 -- ---- what is between two tokens
 
--- of pieces after m line ends these count as a line end, where a token is next
+-- of pieces after m line breaks these count as a line break, where a token is next
 abbrev pub CountsEnds : (ℕ → List Piece) → Bool → ℕ → Type 0
 CountsEnds following has_next depth = (m : ℕ)
     → has_break (suc depth) (following m) ≡ ((not (m == 0) && has_next) || has_break (suc depth) (following 0))

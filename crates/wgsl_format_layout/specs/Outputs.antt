@@ -67,20 +67,20 @@ abbrev pub Writes : Output → Piece → Role → Bool → Output → Type 0
 Writes old p right own new = (ps : List Piece) → next_role (state_view old.state) ps ≡ right
     → owned (spot_of old) right ps ≡ own → seen_with old (p ∷ ps) ≡ seen_with new ps
 
--- the comments of a text are written, with a number of line ends after the last one, before pieces
--- of which the first token is of this role, or before none
+-- the comments of a text are written, with a number of line breaks after the last one, before
+-- pieces of which the first token is of this role, or before none
 abbrev pub WritesComments : Output → List ℕ → Role → Bool → ℕ → Output → Type 0
 WritesComments old text right has_next n new =
     (following : ℕ → List Piece) → ((m : ℕ) → next_role (state_view old.state) (following m) ≡ right)
     → MayFollow following has_next → seen_with old (comments following outside 0 text) ≡ seen_with new (following n)
 
--- a token that does so comes next, before these pieces, by which it is marked
+-- a token of this role comes next, before these pieces, by which it is marked
 pub record FitsBefore (o : Output) (token : MarkedToken) (right : Role) (ps : List Piece) : Type 0 where
   pub does : right ≡ role_in (state_view o.state) (class_of_kind token.kind) (operand_follows ps)
   pub lines : token.lines ≡ has_lines ps
   pub several : token.several ≡ has_several ps
 
--- a token that does so is written with its characters after a number of line ends, before pieces
+-- a token of this role is written with its characters after a number of line breaks, before pieces
 -- that fit
 abbrev pub WritesToken : Output → MarkedToken → Role → List ℕ → ℕ → Output → Type 0
 WritesToken old token right text n new = (ps : List Piece) → FitsBefore old token right ps
@@ -90,11 +90,11 @@ WritesToken old token right text n new = (ps : List Piece) → FitsBefore old to
 abbrev pub StaysAfter : Output → Output → Type 0
 StaysAfter old new = state_view new.state ≡ in_line_of (state_view old.state) new.state.line
 
--- a text begins with a line end
+-- a text begins with a line break
 abbrev pub BeginsLine : List ℕ → Type 0
 BeginsLine text = (more : List ℕ) × (text ≡ 10 ∷ more)
 
--- written item by item, the bracket that is the last token has a line end at once
+-- written item by item, the bracket that is the last token has a line break at once
 abbrev pub Parts : Output → List Piece → Type 0
 Parts o ps = BeginsLine (laid_from (layout_of o) (parted (spot_of o)) ps)
 

@@ -40,7 +40,7 @@ fn has_stars(text: &str) -> bool
 }
 
 /// The first line of a text, without CR at its end, and the text after it; none if the text has no
-/// line end.
+/// line break.
 fn split_line(text: &str) -> Option<(&str, &str)>
     ensures value { MatchOption result (IsOneLine (chars text.now)) (λ found.
         IsFirstLine (chars text.now) (chars found.0.now) (chars found.1.now)) }

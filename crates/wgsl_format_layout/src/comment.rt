@@ -9,7 +9,7 @@ use wgsl_lex_scanner::characters::is_line_break;
 use wgsl_lex_scanner::text::split_first;
 use wgsl_lex_scanner::trivia::{Piece, after_block, after_line, piece_at};
 
-/// Which comment it is.
+/// The kind of a comment.
 #[derive(Clone, Copy)]
 pub enum CommentKind {
     Line,
@@ -26,7 +26,7 @@ pub struct Comment<'s> {
     pub rest: &'s str,
 }
 
-/// How many lines end at a character that is before a text; CR and LF are one line end.
+/// How many lines end at a character that is before a text; CR and LF are one line break.
 pub(crate) fn line_ends_at(c: char, after: &str) -> usize
     ensures { result ≡ line_ends_at c (chars after.now) }
 {

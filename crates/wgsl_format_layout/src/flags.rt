@@ -10,9 +10,9 @@ use std::alloc::{AllocError, Global};
 use std::marker::Model;
 use wgsl_lex_token::kind::TokenKind;
 
-/// Of each bracket that is open at a place of a source, whether a line ends in it after the place
-/// and after the next bracket in it that is open too: the innermost last; seen as a list, the
-/// innermost first.
+/// The flags of the brackets that are open at a place of a source: of each, whether a line ends in
+/// it after the place and after the next bracket in it that is open too. The innermost is last;
+/// seen as a list, the innermost is first.
 #[derive(Drop)]
 pub struct Flags {
     items: Vec<bool>,

@@ -19,7 +19,7 @@ use crate::role::Role;
 pub(crate) enum Gap {
     Closed,
     Blank,
-    /// A line end, with an empty line or without, and the blank space of a line so deep.
+    /// A line break, with an empty line or without, and the blank space of a line so deep.
     Broken { empty: bool, depth: usize },
 }
 
@@ -44,7 +44,7 @@ pub(crate) enum Last {
     Comment(CommentKind),
 }
 
-/// The line end if the author put one there, else another gap.
+/// The line break if the author put one there, else another gap.
 fn kept(line_ends: usize, broken: Gap, other: Gap) -> Gap
     ensures { gap_view result ≡ plain.kept_gap line_ends (gap_view broken) (gap_view other) }
 {
@@ -64,7 +64,7 @@ fn joint_gap(joint: Joint, line_ends: usize, broken: Gap) -> Gap
     }
 }
 
-/// Whether a line end has to be there.
+/// Whether a line break has to be there.
 pub(crate) fn is_line(joint: Joint) -> bool
     ensures { result ≡ plain.is_line (joint_view joint) }
 {
@@ -91,7 +91,7 @@ fn closes_up(right: Role) -> bool
     right.is_tight() || right.is(Role::TemplateEnd)
 }
 
-/// What is between a comment and a token where no line end has to be.
+/// What is between a comment and a token where no line break has to be.
 fn loose_joint(right: Role) -> Joint
     ensures { joint_view result ≡ plain.loose_joint (role_view right) }
 {
@@ -210,8 +210,8 @@ fn is_after_opening(last: Last, left: Role) -> bool
     }
 }
 
-/// A line end before such a token: an empty line of the author's stays between items, but neither
-/// after an opening bracket nor before a closing one.
+/// A line break before such a token: an empty line of the author's stays between items, but
+/// neither after an opening bracket nor before a closing one.
 pub(crate) fn line_end(
     items: bool,
     last: Last,

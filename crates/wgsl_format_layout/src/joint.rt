@@ -14,9 +14,9 @@ pub(crate) enum Joint {
     Line,
     Nothing,
     Space,
-    /// Nothing, or the line end that the author put there.
+    /// Nothing, or the line break that the author put there.
     NothingOrLine,
-    /// A space, or the line end that the author put there.
+    /// A space, or the line break that the author put there.
     SpaceOrLine,
 }
 
@@ -74,7 +74,7 @@ fn closed_up(left: Role, right: Role) -> bool
         || is_continued(left, right)
 }
 
-/// Whether a line end of the author's stays between two that are not closed up.
+/// Whether a line break of the author's stays between two that are not closed up.
 fn goes_on(left: Role, right: Role) -> bool
     ensures { result ≡ continues_line (role_view left) (role_view right) }
 {

@@ -4,7 +4,8 @@ ghost use Rattle.std.specs.Prelude.{◌≡◌};
 ghost use Rattle.wgsl_model_tidy.specs.Layout as plain;
 ghost use Rattle.wgsl_format_layout.specs.Layouts.{layout_view};
 
-/// How long a line may be, how far it is indented, and with what it ends.
+/// The layout of a formatted text: how long a line may be, how far it is indented, and with what it
+/// ends.
 #[derive(Clone, Copy, Debug, PartialEq, Eq)]
 pub struct Layout {
     /// A line with more columns is broken at its brackets, as far as it has any. If 0, none is.
@@ -13,7 +14,7 @@ pub struct Layout {
     pub newlines: Newlines,
 }
 
-/// What one level of indentation is.
+/// The blank space of one level of indentation.
 #[derive(Clone, Copy, Debug, PartialEq, Eq)]
 pub enum Indent {
     /// A number of spaces; a tab in a comment counts as many columns.
@@ -22,7 +23,7 @@ pub enum Indent {
     Tab(u8),
 }
 
-/// With what lines end.
+/// The line breaks of a formatted text.
 #[derive(Clone, Copy, Debug, PartialEq, Eq)]
 pub enum Newlines {
     /// With CR LF if the first LF of the source is after CR, otherwise with LF.
@@ -32,7 +33,8 @@ pub enum Newlines {
 }
 
 impl Layout {
-    /// Lines of up to 100 columns, four spaces a level, and the line ends of the source.
+    /// Returns the standard layout: lines of up to 100 columns, four spaces a level, and the line
+    /// breaks of the source.
     pub fn standard() -> Layout
         ensures { layout_view result ≡ plain.standard }
     {

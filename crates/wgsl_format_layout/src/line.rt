@@ -10,7 +10,7 @@ use crate::layout::Layout;
 use std::alloc::AllocError;
 use wgsl_lex_scanner::text::split_first;
 
-/// What is known of the line in which a place is, whose end is looked for.
+/// The state of the line in which a place is, whose end is looked for.
 #[derive(Clone, Copy, PartialEq, Eq)]
 pub enum Wanted {
     /// It has not ended yet.

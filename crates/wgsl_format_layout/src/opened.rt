@@ -10,7 +10,7 @@ ghost use Rattle.wgsl_format_layout.specs.declared.opened.OpenAt.{OpenAt};
 use std::alloc::{AllocError, Global};
 use std::marker::Model;
 
-/// How a bracket is written.
+/// The way in which a bracket is written.
 #[derive(Clone, Copy)]
 pub enum Style {
     /// In one line.
@@ -34,7 +34,7 @@ pub enum Open {
     Bracket(Style),
 }
 
-/// What a place is in.
+/// The innermost bracket that a place is in, by its lines.
 #[derive(Clone, Copy)]
 pub enum Enclosing {
     NoBracket,
@@ -86,7 +86,7 @@ pub struct OpenAt {
     depth: usize,
 }
 
-/// What is open, the innermost last; seen as a list, the innermost first.
+/// A stack of what is open, the innermost last; seen as a list, the innermost first.
 #[derive(Drop)]
 pub struct Opened {
     items: Vec<OpenAt>,
@@ -98,7 +98,7 @@ impl Model for Opened {
     ghost view = { λ opened. map (λ (item : OpenAt). (open_view item.kind, item.depth)) (reverse opened.items.items) };
 }
 
-/// One level deeper. A line so deep that no number tells its depth has no place in memory.
+/// One level deeper. A line so deep that no number says its depth has no place in memory.
 pub(crate) fn deeper(depth: usize) -> Result<usize, AllocError>
     ensures { IfOk result (λ below. below ≡ suc depth) }
 {

@@ -50,7 +50,7 @@ pub struct Place {
     byte: usize,
 }
 
-/// After a token is written.
+/// The place after a token is written, and whether the token may be written in another way.
 #[derive(Clone, Copy)]
 pub struct Step {
     at: Place,
@@ -58,7 +58,7 @@ pub struct Step {
     undecided: bool,
 }
 
-/// What is needed to go back to a bracket and write it item by item.
+/// The state to go back to, where a bracket is written item by item.
 #[derive(Drop)]
 pub struct Saved {
     at: Place,
@@ -70,7 +70,7 @@ pub struct Saved {
     last: Last,
 }
 
-/// Whether a line end is after the last piece.
+/// Whether a line break is after the last piece.
 fn ends_line(last: Last, left: Role) -> bool
     ensures { (if result then codes "\n" else []) ≡ model.ending (last_view last) (role_view left) }
 {
@@ -105,8 +105,8 @@ impl Output {
         is_token(self.last) && is_line(joint) && !right.closes() && is_followed(text, has_next)
     }
 
-    /// The gap before a comment after a number of line ends, before a token that has this role and
-    /// owns it or does not.
+    /// The gap before a comment after a number of line breaks, before a token that has this role
+    /// and owns it or does not.
     fn gap_before_comment(
         &self,
         kind: CommentKind,
@@ -124,7 +124,7 @@ impl Output {
         Ok(comment_gap(kind, self.last, left, owned, line_ends, broken))
     }
 
-    /// The gap before a token that has this role, after a number of line ends.
+    /// The gap before a token that has this role, after a number of line breaks.
     fn gap_before_token(&self, line_ends: usize, right: Role) -> Result<Gap, AllocError>
         ensures { IfOk result (λ gap.
             gap_view gap ≡ model.gap_before_token (spot_of self.now) (role_view right) line_ends) }
@@ -137,8 +137,8 @@ impl Output {
         Ok(token_gap(enclosing, self.last, left, right, line_ends, broken))
     }
 
-    /// Writes a comment after a number of line ends, before a token that has this role and owns it
-    /// or does not.
+    /// Writes a comment after a number of line breaks, before a token that has this role and owns
+    /// it or does not.
     fn write_comment(
         &mut self,
         comment: Comment,
@@ -162,7 +162,7 @@ impl Output {
     }
 
     /// Writes the comments of a text of blank space and comments, before a token that has this role
-    /// or at the end of the source, and returns how many line ends are after the last one.
+    /// or at the end of the source, and returns how many line breaks are after the last one.
     fn write_comments(
         &mut self,
         text: &str,
@@ -201,8 +201,8 @@ impl Output {
             && token.several
     }
 
-    /// Writes a token of this role after a number of line ends; a bracket without a line end in it
-    /// in one line.
+    /// Writes a token of this role after a number of line breaks; a bracket without a line break in
+    /// it in one line.
     fn write_token(
         &mut self,
         token: MarkedToken,
@@ -343,7 +343,7 @@ impl Output {
     }
 }
 
-/// The formatted text of a source with these tokens.
+/// Returns the formatted text of a source with these tokens.
 pub fn laid_out(
     alloc: Global,
     source: &str,

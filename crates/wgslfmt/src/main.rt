@@ -1,4 +1,4 @@
-//! Reads WGSL on the standard input, and prints it anew on the standard output.
+//! Reads WGSL on the standard input, and prints its canonical text on the standard output.
 #![tactic(auto)]
 
 use std::io::ErrorKind;

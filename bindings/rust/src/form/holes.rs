@@ -7,10 +7,10 @@ use super::{Form, FormError, Reader};
 use crate::nested::Parts;
 use crate::span::Span;
 
-/// How many nodes with a span are read inside one another.
+/// The number of nodes with a span that are read inside one another.
 pub const DEEPEST: usize = 32;
 
-/// Which kind of node is left out.
+/// The kind of a node that is left out.
 #[derive(Clone, Copy, Debug)]
 pub enum Kind {
     /// An expression.
@@ -30,7 +30,7 @@ pub struct Hole {
     pub form: Span,
 }
 
-/// The tree that a whole text is the form of.
+/// Reads the tree that a whole text is the form of.
 pub fn read_all<T: Form>(text: &str) -> Result<T, FormError> {
     let mut reader = Reader::new(text);
     let mut tree = reader.whole(Span::new(0..text.len()))?;
@@ -45,8 +45,8 @@ pub fn read_all<T: Form>(text: &str) -> Result<T, FormError> {
     Ok(tree)
 }
 
-/// Where the nodes are in a form that are so deep inside others that they may be left out, in the
-/// order of their starts. There are none if its brackets do not match.
+/// Returns where the nodes are in a form that are so deep inside others that they may be left out,
+/// in the order of their starts. There are none if its brackets do not match.
 pub fn deep_nodes(form: &str) -> Option<Vec<Span>> {
     let (mut deep, mut open, mut nodes) = (Vec::new(), Vec::new(), 0usize);
     let (mut in_text, mut escaped) = (false, false);

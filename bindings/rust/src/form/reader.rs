@@ -6,7 +6,7 @@ use super::FormError;
 use crate::nested::Nested;
 use crate::span::{Span, Spanned};
 
-/// What is left of a text, and what is left out of the tree that is read.
+/// The rest of a text, and what is left out of the tree that is read.
 #[derive(Debug)]
 pub struct Reader<'t> {
     text: &'t str,
@@ -21,7 +21,7 @@ pub struct Reader<'t> {
 }
 
 impl<'t> Reader<'t> {
-    /// A text of which nothing is read yet.
+    /// Returns a reader of a text of which nothing is read yet.
     pub fn new(text: &'t str) -> Self {
         Reader {
             text,
@@ -45,7 +45,7 @@ impl<'t> Reader<'t> {
         }
     }
 
-    /// What is left out, by its number.
+    /// Returns what is left out, by its number.
     pub fn hole(&self, number: usize) -> Option<Hole> {
         self.holes.get(number).copied()
     }
@@ -119,7 +119,7 @@ impl<'t> Reader<'t> {
         self.expect("\":")
     }
 
-    /// Takes the name of a variant, and tells whether it holds something, which is next.
+    /// Takes the name of a variant, and returns whether it holds something, which is next.
     pub fn variant(&mut self) -> Result<(&'t str, bool), FormError> {
         let holds = self.takes("{");
         self.expect("\"")?;

@@ -24,7 +24,8 @@ pub struct Writer<'t> {
 }
 
 impl<'t> Writer<'t> {
-    /// A form in which each span is 0 to 0, for a call that does not depend on spans.
+    /// Returns an empty form in which each span is 0 to 0, for a call that does not depend on
+    /// spans.
     pub fn without_spans() -> Self {
         Writer {
             without_spans: true,
@@ -65,7 +66,7 @@ impl<'t> Writer<'t> {
         self.depth -= 1;
     }
 
-    /// The form with all that is left out.
+    /// Returns the form with all that is left out.
     pub fn finish(self) -> String {
         if self.later.is_empty() {
             return self.form;

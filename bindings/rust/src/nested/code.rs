@@ -24,7 +24,7 @@ enum Piece<'t> {
 pub struct Code<'t>(Vec<Piece<'t>>);
 
 impl<'t> Code<'t> {
-    /// The parts of a tree.
+    /// Returns the parts of a tree.
     pub fn new<T: Coded>(tree: &'t T) -> Self {
         let mut code = Code::default();
         tree.code(&mut code);
@@ -58,16 +58,16 @@ impl<'t> Code<'t> {
     }
 }
 
-/// What consists of parts: nodes, and what their fields hold.
+/// A type that consists of parts: nodes, and what their fields hold.
 pub trait Coded: Sized {
     /// Puts its parts in order, without those of what nests in it.
     fn code<'t>(&'t self, code: &mut Code<'t>);
 
-    /// A copy, with holes for what nests very deep in it.
+    /// Returns a copy, with holes for what nests very deep in it.
     fn copied<'t>(&'t self, copies: &mut Copies<'t>) -> Self;
 }
 
-/// Whether two trees consist of the same parts, with or without their spans.
+/// Returns whether two trees consist of the same parts, with or without their spans.
 pub fn same<T: Coded>(first: &T, second: &T, spans: bool) -> bool {
     let (mut left, mut right) = (Code::new(first), Code::new(second));
     loop {

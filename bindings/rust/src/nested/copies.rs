@@ -6,7 +6,7 @@ use crate::span::{Span, Spanned};
 /// How many nodes with a span are copied inside one another.
 const DEEPEST: usize = 64;
 
-/// What is left out of copies.
+/// A list of what is left out of copies.
 #[derive(Default)]
 pub struct Copies<'t> {
     /// How many nodes with a span are being copied, each inside the one before.
@@ -15,7 +15,7 @@ pub struct Copies<'t> {
 }
 
 impl<'t> Copies<'t> {
-    /// A copy of a node that has a span, or a hole if it is very deep inside others.
+    /// Copies a node that has a span, or returns a hole if it is very deep inside others.
     pub fn node<T: Nested>(&mut self, spanned: &'t Spanned<T>) -> Spanned<T> {
         let (span, node) = (spanned.span, spanned.node());
         match node.inner() {
@@ -33,7 +33,7 @@ impl<'t> Copies<'t> {
     }
 }
 
-/// A copy of a node.
+/// Copies a node.
 pub fn copy<T: Nested>(node: &T) -> T {
     let mut copies = Copies::default();
     let mut copied = node.copied(&mut copies);

@@ -16,7 +16,7 @@ enum Part {
 pub struct Parts(Vec<Option<(Span, Part)>>);
 
 impl Parts {
-    /// How many parts there are.
+    /// Returns how many parts there are.
     pub fn count(&self) -> usize {
         self.0.len()
     }

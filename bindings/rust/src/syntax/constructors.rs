@@ -3,7 +3,7 @@
 use super::*;
 
 impl TranslationUnit {
-    /// A module without directives and declarations.
+    /// Returns a module without directives and declarations.
     ///
     /// ```
     /// use centrelilac::syntax::TranslationUnit;
@@ -27,7 +27,7 @@ impl Default for TranslationUnit {
 }
 
 impl TypeAlias {
-    /// An alias without attributes.
+    /// Returns an alias without attributes.
     ///
     /// ```
     /// use centrelilac::syntax::{GlobalDeclaration, Ident, TypeAlias, TypeExpression};
@@ -46,7 +46,7 @@ impl TypeAlias {
 }
 
 impl Struct {
-    /// A structure without attributes and members.
+    /// Returns a structure without attributes and members.
     ///
     /// ```
     /// use centrelilac::syntax::{GlobalDeclaration, Ident, Struct, StructMember, TypeExpression};
@@ -68,7 +68,7 @@ impl Struct {
 }
 
 impl StructMember {
-    /// A member without attributes.
+    /// Returns a member without attributes.
     ///
     /// ```
     /// use centrelilac::syntax::{Ident, StructMember, TypeExpression};
@@ -88,7 +88,7 @@ impl StructMember {
 }
 
 impl Function {
-    /// A function without attributes, parameters, a result and statements.
+    /// Returns a function without attributes, parameters, a result and statements.
     ///
     /// ```
     /// use centrelilac::syntax::{Function, GlobalDeclaration, Ident};
@@ -110,7 +110,7 @@ impl Function {
 }
 
 impl FormalParameter {
-    /// A parameter without attributes.
+    /// Returns a parameter without attributes.
     ///
     /// ```
     /// use centrelilac::syntax::{FormalParameter, Function, GlobalDeclaration, Ident};
@@ -130,7 +130,7 @@ impl FormalParameter {
 }
 
 impl ConstAssert {
-    /// A `const_assert` without attributes.
+    /// Returns a `const_assert` without attributes.
     ///
     /// ```
     /// use centrelilac::syntax::{ConstAssert, Statement};
@@ -148,7 +148,7 @@ impl ConstAssert {
 }
 
 impl TypeExpression {
-    /// A name without a template.
+    /// Returns a name without a template.
     ///
     /// ```
     /// use centrelilac::syntax::{Expression, Ident, TypeExpression};

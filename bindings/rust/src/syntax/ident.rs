@@ -15,7 +15,7 @@ pub struct Ident {
 }
 
 impl Ident {
-    /// The name that is spelled so.
+    /// Returns the name that is spelled so.
     ///
     /// ```
     /// use centrelilac::syntax::Ident;
@@ -27,7 +27,7 @@ impl Ident {
         Ident { name }
     }
 
-    /// How it is spelled.
+    /// Returns how it is spelled.
     ///
     /// ```
     /// use centrelilac::syntax::Ident;

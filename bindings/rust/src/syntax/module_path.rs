@@ -4,7 +4,7 @@ use std::error::Error;
 use std::fmt;
 use std::str::FromStr;
 
-/// Where a module path starts.
+/// The start of a module path.
 #[derive(Clone, Debug, PartialEq, Eq, Hash)]
 pub enum PathOrigin {
     /// At the root of the package: `package`.
@@ -16,7 +16,7 @@ pub enum PathOrigin {
 }
 
 impl PathOrigin {
-    /// Whether it is [`Absolute`](Self::Absolute).
+    /// Returns whether it is [`Absolute`](Self::Absolute).
     ///
     /// ```
     /// assert!(centrelilac::syntax::PathOrigin::Absolute.is_absolute());
@@ -26,7 +26,7 @@ impl PathOrigin {
         matches!(self, PathOrigin::Absolute)
     }
 
-    /// Whether it is [`Relative`](Self::Relative).
+    /// Returns whether it is [`Relative`](Self::Relative).
     ///
     /// ```
     /// assert!(centrelilac::syntax::PathOrigin::Relative(1).is_relative());
@@ -36,7 +36,7 @@ impl PathOrigin {
         matches!(self, PathOrigin::Relative(_))
     }
 
-    /// Whether it is [`Package`](Self::Package).
+    /// Returns whether it is [`Package`](Self::Package).
     ///
     /// ```
     /// assert!(centrelilac::syntax::PathOrigin::Package("a".to_string()).is_package());
@@ -66,7 +66,7 @@ pub struct ModulePath {
 }
 
 impl ModulePath {
-    /// A path with an origin and components.
+    /// Returns a path with an origin and components.
     ///
     /// ```
     /// use centrelilac::syntax::{ModulePath, PathOrigin};
@@ -79,7 +79,7 @@ impl ModulePath {
         ModulePath { origin, components }
     }
 
-    /// The root of the package: `package`.
+    /// Returns the root of the package: `package`.
     ///
     /// ```
     /// use centrelilac::syntax::ModulePath;
@@ -91,7 +91,7 @@ impl ModulePath {
         ModulePath::new(PathOrigin::Absolute, Vec::new())
     }
 
-    /// Whether it is the root of the package.
+    /// Returns whether it is the root of the package.
     ///
     /// ```
     /// use centrelilac::syntax::ModulePath;
@@ -116,7 +116,7 @@ impl ModulePath {
         self.components.push(item.to_owned());
     }
 
-    /// The first component.
+    /// Returns the first component.
     ///
     /// ```
     /// let path: centrelilac::syntax::ModulePath = "self::a::b".parse()?;
@@ -128,7 +128,7 @@ impl ModulePath {
         self.components.first().map(String::as_str)
     }
 
-    /// The last component.
+    /// Returns the last component.
     ///
     /// ```
     /// let path: centrelilac::syntax::ModulePath = "self::a::b".parse()?;
@@ -140,7 +140,7 @@ impl ModulePath {
         self.components.last().map(String::as_str)
     }
 
-    /// The path with more components at its end.
+    /// Puts more components at the end, and returns the path.
     ///
     /// ```
     /// use centrelilac::syntax::ModulePath;
@@ -154,7 +154,7 @@ impl ModulePath {
         self
     }
 
-    /// What another path means in the module with this path.
+    /// Returns what another path means in the module with this path.
     ///
     /// ```
     /// use centrelilac::syntax::ModulePath;
@@ -189,7 +189,7 @@ impl ModulePath {
         ModulePath::new(origin, components.cloned().collect())
     }
 
-    /// Whether another path is a beginning of this one.
+    /// Returns whether another path is a beginning of this one.
     ///
     /// ```
     /// use centrelilac::syntax::ModulePath;
@@ -221,7 +221,7 @@ impl fmt::Display for ModulePath {
     }
 }
 
-/// Why a text is not read as a module path.
+/// The reason why a text is not read as a module path.
 #[derive(Clone, Copy, Debug, PartialEq, Eq, Hash)]
 pub enum ModulePathParseError {
     /// It starts with no name.

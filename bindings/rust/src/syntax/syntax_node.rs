@@ -18,7 +18,7 @@ use super::*;
 /// # Ok::<(), centrelilac::Fault>(())
 /// ```
 pub trait SyntaxNode {
-    /// Where the node is: only a [`Spanned`] has it.
+    /// Returns where the node is: only a [`Spanned`] has it.
     ///
     /// ```
     /// use centrelilac::syntax::{Span, SyntaxNode};
@@ -33,7 +33,7 @@ pub trait SyntaxNode {
         None
     }
 
-    /// A copy of the name that a declaration, a member or a parameter declares.
+    /// Returns a copy of the name that a declaration, a member or a parameter declares.
     ///
     /// ```
     /// use centrelilac::syntax::{Ident, SyntaxNode};
@@ -47,7 +47,7 @@ pub trait SyntaxNode {
         None
     }
 
-    /// The attributes before the node.
+    /// Returns the attributes before the node.
     ///
     /// ```
     /// use centrelilac::syntax::{GlobalDeclaration, SyntaxNode};
@@ -61,7 +61,7 @@ pub trait SyntaxNode {
         &[]
     }
 
-    /// The attributes before the node, which may be changed.
+    /// Returns the attributes before the node, which may be changed.
     ///
     /// ```
     /// use centrelilac::syntax::{Attribute, GlobalDeclaration, SyntaxNode};
@@ -75,7 +75,7 @@ pub trait SyntaxNode {
         &mut []
     }
 
-    /// Whether an attribute is before the node.
+    /// Returns whether an attribute is before the node.
     ///
     /// ```
     /// use centrelilac::syntax::{Attribute, GlobalDeclaration, SyntaxNode};

@@ -72,7 +72,8 @@ macro_rules! from_held {
 macro_rules! is_variant {
     ($name:ident $variant:ident $is:ident, $made:expr) => {
         #[doc = concat!(
-            "Whether it is [`", stringify!($variant), "`](Self::", stringify!($variant), ")."
+            "Returns whether it is [`", stringify!($variant), "`](Self::", stringify!($variant),
+            ")."
         )]
         ///
         /// ```
@@ -93,7 +94,7 @@ macro_rules! is_variant {
 macro_rules! unwrap_variant {
     ($name:ident $variant:ident $(($held:ty))? $unwrap:ident, $made:expr) => {
         #[doc = concat!(
-            "What [`", stringify!($variant), "`](Self::", stringify!($variant), ") holds."
+            "Returns what [`", stringify!($variant), "`](Self::", stringify!($variant), ") holds."
         )]
         ///
         /// # Panics

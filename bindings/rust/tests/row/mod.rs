@@ -20,7 +20,7 @@ impl Row {
     }
 }
 
-/// The rows of a file.
+/// Returns the rows of a file.
 fn rows_of(name: &str, data: &str) -> Vec<Row> {
     let mut rows = Vec::new();
     for (index, part) in data.split("\n\n").enumerate() {
@@ -55,7 +55,7 @@ fn rows_of(name: &str, data: &str) -> Vec<Row> {
     rows
 }
 
-/// All rows.
+/// Returns all rows.
 pub fn rows() -> Vec<Row> {
     let top = PathBuf::from(env!("CARGO_MANIFEST_DIR")).join("../..");
     let mut names: Vec<_> = ["tests/rows", "crates/wgsl_test_texts/data"]

@@ -1,7 +1,7 @@
 //! Texts in quotes, as the rows have them: pieces `"..."`, each with `* N` after it where it
-//! stands N times.
+//! is there N times.
 
-/// The bytes of the pieces of a line.
+/// Returns the bytes of the pieces of a line.
 pub fn texts_of(line: &str) -> Vec<u8> {
     let mut whole = Vec::new();
     let mut left = line.trim();
@@ -23,7 +23,7 @@ pub fn texts_of(line: &str) -> Vec<u8> {
     whole
 }
 
-/// The bytes up to the closing quote, and what stands after it.
+/// Returns the bytes up to the closing quote, and what is after it.
 fn piece_of(text: &str) -> (Vec<u8>, &str) {
     let mut piece = Vec::new();
     let mut left = text;
