@@ -29,48 +29,48 @@ RULES = "LawNodes"
 # proves a law, if not a lemma for each of its kinds.
 LAWS = """
 equality::equivalence = -- The test is an equivalence.
-equality::literals LiteralExpression -- Two literals are equal where they are one.
+equality::literals LiteralExpression -- Two literals are equal exactly if they are the same.
 equality::expressions Expression
-    -- Two expressions are equal where they are one with their spans set aside.
+    -- Two expressions are equal exactly if they are the same ignoring spans.
 equality::nodes ExpressionNode
-    -- Two expressions with their places are equal where they are one with their spans set aside.
+    -- Two expressions with their places are equal exactly if they are the same ignoring spans.
 equality::calls FunctionCall
-    -- Two calls are equal where they are one with their spans set aside.
+    -- Two calls are equal exactly if they are the same ignoring spans.
 equality::types TypeExpression
-    -- Two types are equal where they are one with their spans set aside.
+    -- Two types are equal exactly if they are the same ignoring spans.
 equality::declarations DeclarationKind Declaration
-    -- Two declarations are equal where they are one with their spans set aside; two of their kinds,
-    which have no spans, where they are one.
+    -- Two declarations are equal exactly if they are the same ignoring spans; two of their kinds,
+    which have no spans, exactly if they are the same.
 equality::simple_statements plain_simple
-    -- Two statements that hold no others are equal where they are one with their spans set aside.
+    -- Two statements that hold no others are equal exactly if they are the same ignoring spans.
 equality::statements blocks
-    -- Two statements are equal where they are one with their spans set aside; so are two blocks.
+    -- Two statements are equal exactly if they are the same ignoring spans; so are two blocks.
 equality::branches branches
-    -- Two statements that branch are equal where they are one with their spans set aside; so are
+    -- Two statements that branch are equal exactly if they are the same ignoring spans; so are
     two of their clauses.
-equality::loops loops -- Two loops are equal where they are one with their spans set aside.
+equality::loops loops -- Two loops are equal exactly if they are the same ignoring spans.
 equality::directives directives
-    -- Two directives are equal where they are one with the spans in their attributes set aside.
+    -- Two directives are equal exactly if they are the same ignoring the spans in their attributes.
 equality::global_declarations declarations
-    -- Two declarations of modules are equal where they are one with their spans set aside.
+    -- Two declarations of modules are equal exactly if they are the same ignoring spans.
 equality::units TranslationUnit
-    -- Two modules are equal where they are one with their spans set aside.
+    -- Two modules are equal exactly if they are the same ignoring spans.
 simple_equality::declarations DeclarationKind Declaration
-    -- Two declarations are equal where they are one with their spans set aside; two kinds where
-    they are one.
+    -- Two declarations are equal exactly if they are the same ignoring spans; two kinds exactly if
+    they are the same.
 simple_equality::simple_statements simple
     by wgsl_tree_simple::proofs::Equalities::statements_agree
-    -- Two statements are equal where they are one with their spans set aside.
+    -- Two statements are equal exactly if they are the same ignoring spans.
 attribute_equality::equivalence =Attribute -- `==` of attributes is an equivalence.
 attribute_equality::attributes Attribute
-    -- Two attributes are equal where they are one with their spans set aside.
+    -- Two attributes are equal exactly if they are the same ignoring spans.
 unit_equality::equivalence =TranslationUnit -- `==` of modules is an equivalence.
 unit_equality::units TranslationUnit
-    -- Two modules are equal where they are one with their spans set aside.
+    -- Two modules are equal exactly if they are the same ignoring spans.
 unit_equality::directives directives
-    -- Two directives are equal where they are one with the spans of their attributes set aside.
+    -- Two directives are equal exactly if they are the same ignoring the spans of their attributes.
 unit_equality::global_declarations declarations
-    -- Two declarations are equal where they are one with their spans set aside; so are their parts.
+    -- Two declarations are equal exactly if they are the same ignoring spans; so are their parts.
 attributes::statement_attributes listed by crate::proofs::Hints::attributes
     -- The attributes that each statement returns are those of its plain tree.
 """
@@ -137,7 +137,7 @@ def laws(nodes, specs):
     for kind in nodes.table.of_form("struct"):
         if nodes.homes[kind.name][0] == "attribute":
             name = specs.equal(kind.name).removeprefix("equal_")
-            doc = f"Two values of `{kind.name}` are equal where they are one with their spans set aside."
+            doc = f"Two values of `{kind.name}` are equal exactly if they are the same ignoring spans."
             yield Law("attribute_equality", name, (kind.name,), "", doc)
 
 

@@ -25,28 +25,28 @@ pub fn equivalence()
     ensures { IsEquivalence equal_attributes }
 {}
 
-/// Two attributes are equal where they are one with their spans set aside.
+/// Two attributes are equal exactly if they are the same ignoring spans.
 #[tactic(auto, using(wgsl_tree_attribute::proofs::Equalities::attributes_agree))]
 pub fn attributes()
     ensures { (a b : Attribute) → IsTrue (equal_attributes a b) ↔ (bare_attribute (attribute_view a)
         ≡ bare_attribute (attribute_view b)) }
 {}
 
-/// Two values of `DiagnosticAttribute` are equal where they are one with their spans set aside.
+/// Two values of `DiagnosticAttribute` are equal exactly if they are the same ignoring spans.
 #[tactic(auto, using(wgsl_tree_attribute::proofs::Equalities::diagnostics_agree))]
 pub fn diagnostics()
     ensures { (a b : DiagnosticAttribute) → IsTrue (equal_diagnostics a b) ↔ (diagnostic_view a
         ≡ diagnostic_view b) }
 {}
 
-/// Two values of `InterpolateAttribute` are equal where they are one with their spans set aside.
+/// Two values of `InterpolateAttribute` are equal exactly if they are the same ignoring spans.
 #[tactic(auto, using(wgsl_tree_attribute::proofs::Equalities::interpolations_agree))]
 pub fn interpolations()
     ensures { (a b : InterpolateAttribute) → IsTrue (equal_interpolations a b) ↔ (interpolate_view a
         ≡ interpolate_view b) }
 {}
 
-/// Two values of `WorkgroupSizeAttribute` are equal where they are one with their spans set aside.
+/// Two values of `WorkgroupSizeAttribute` are equal exactly if they are the same ignoring spans.
 #[tactic(auto, using(wgsl_tree_attribute::proofs::Equalities::workgroup_sizes_agree))]
 pub fn workgroup_sizes()
     ensures { (a b : WorkgroupSizeAttribute) → IsTrue (equal_workgroup_sizes a b) ↔
@@ -54,7 +54,7 @@ pub fn workgroup_sizes()
         ≡ bare_workgroup_size (workgroup_size_view b)) }
 {}
 
-/// Two values of `TypeConstraint` are equal where they are one with their spans set aside.
+/// Two values of `TypeConstraint` are equal exactly if they are the same ignoring spans.
 #[tactic(auto, using(wgsl_tree_attribute::proofs::Equalities::type_constraints_agree))]
 pub fn type_constraints()
     ensures { (a b : TypeConstraint) → IsTrue (equal_type_constraints a b) ↔
@@ -62,7 +62,7 @@ pub fn type_constraints()
         ≡ bare_type_constraint (type_constraint_view b)) }
 {}
 
-/// Two values of `CustomAttribute` are equal where they are one with their spans set aside.
+/// Two values of `CustomAttribute` are equal exactly if they are the same ignoring spans.
 #[tactic(auto, using(wgsl_tree_attribute::proofs::Equalities::customs_agree))]
 pub fn customs()
     ensures { (a b : CustomAttribute) → IsTrue (equal_customs a b) ↔ (bare_custom (custom_view a)

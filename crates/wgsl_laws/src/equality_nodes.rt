@@ -72,21 +72,21 @@ pub fn equivalence()
     ensures { IsEquivalence same }
 {}
 
-/// Two literals are equal where they are one.
+/// Two literals are equal exactly if they are the same.
 #[tactic(auto, using(wgsl_tree_code::proofs::SpanlessExpressionNodes::literal_expression_equal))]
 pub fn literals()
     ensures { (a b : LiteralExpression) → IsTrue (same (literal_code a) (literal_code b)) ↔ (a
         ≡ b) }
 {}
 
-/// Two expressions are equal where they are one with their spans set aside.
+/// Two expressions are equal exactly if they are the same ignoring spans.
 #[tactic(auto, using(wgsl_tree_code::proofs::SpanlessExpressionNodes::expression_equal))]
 pub fn expressions()
     ensures { (a b : Expression) → IsTrue (same (expression_code a) (expression_code b)) ↔
         (bare_expression a ≡ bare_expression b) }
 {}
 
-/// Two expressions with their places are equal where they are one with their spans set aside.
+/// Two expressions with their places are equal exactly if they are the same ignoring spans.
 #[tactic(auto, using(wgsl_tree_code::proofs::SpanlessExpressionNodes::expression_node_equal))]
 pub fn nodes()
     ensures { (a b : ExpressionNode) →
@@ -94,22 +94,22 @@ pub fn nodes()
         ≡ bare_expression_node b) }
 {}
 
-/// Two calls are equal where they are one with their spans set aside.
+/// Two calls are equal exactly if they are the same ignoring spans.
 #[tactic(auto, using(wgsl_tree_code::proofs::SpanlessExpressionNodes::function_call_equal))]
 pub fn calls()
     ensures { (a b : FunctionCall) → IsTrue (same (call_code a) (call_code b)) ↔ (bare_call a
         ≡ bare_call b) }
 {}
 
-/// Two types are equal where they are one with their spans set aside.
+/// Two types are equal exactly if they are the same ignoring spans.
 #[tactic(auto, using(wgsl_tree_code::proofs::SpanlessExpressionNodes::type_expression_equal))]
 pub fn types()
     ensures { (a b : TypeExpression) → IsTrue (same (type_code a) (type_code b)) ↔ (bare_type a
         ≡ bare_type b) }
 {}
 
-/// Two declarations are equal where they are one with their spans set aside; two of their kinds,
-/// which have no spans, where they are one.
+/// Two declarations are equal exactly if they are the same ignoring spans; two of their kinds,
+/// which have no spans, exactly if they are the same.
 #[tactic(auto, using(crate::proofs::LawNodes::equality_declarations))]
 pub fn declarations()
     ensures kind { (a b : DeclarationKind) →
@@ -119,7 +119,7 @@ pub fn declarations()
         (bare_attributed bare_declaration a ≡ bare_attributed bare_declaration b) }
 {}
 
-/// Two statements that hold no others are equal where they are one with their spans set aside.
+/// Two statements that hold no others are equal exactly if they are the same ignoring spans.
 #[tactic(auto, using(crate::proofs::LawNodes::equality_simple_statements))]
 pub fn simple_statements()
     ensures assignment { (a b : Attributed AssignmentStatement) →
@@ -147,7 +147,7 @@ pub fn simple_statements()
         (bare_attributed bare_assert a ≡ bare_attributed bare_assert b) }
 {}
 
-/// Two statements are equal where they are one with their spans set aside; so are two blocks.
+/// Two statements are equal exactly if they are the same ignoring spans; so are two blocks.
 #[tactic(auto, using(crate::proofs::LawNodes::equality_statements))]
 pub fn statements()
     ensures statement { (a b : Statement) → IsTrue (same (statement_code a) (statement_code b)) ↔
@@ -159,8 +159,8 @@ pub fn statements()
         (bare_compound a ≡ bare_compound b) }
 {}
 
-/// Two statements that branch are equal where they are one with their spans set aside; so are two
-/// of their clauses.
+/// Two statements that branch are equal exactly if they are the same ignoring spans; so are two of
+/// their clauses.
 #[tactic(auto, using(crate::proofs::LawNodes::equality_branches))]
 pub fn branches()
     ensures if_statement { (a b : Attributed IfStatement) →
@@ -184,7 +184,7 @@ pub fn branches()
         ≡ bare_switch_clause b) }
 {}
 
-/// Two loops are equal where they are one with their spans set aside.
+/// Two loops are equal exactly if they are the same ignoring spans.
 #[tactic(auto, using(crate::proofs::LawNodes::equality_loops))]
 pub fn loops()
     ensures continuing { (a b : ContinuingStatement) →
@@ -204,7 +204,7 @@ pub fn loops()
         ≡ bare_attributed (changed_while without_spans) b) }
 {}
 
-/// Two directives are equal where they are one with the spans in their attributes set aside.
+/// Two directives are equal exactly if they are the same ignoring the spans in their attributes.
 #[tactic(auto, using(crate::proofs::LawNodes::equality_directives))]
 pub fn directives()
     ensures directive { (a b : GlobalDirective) →
@@ -221,7 +221,7 @@ pub fn directives()
         (bare_attributed (λ d. d) a ≡ bare_attributed (λ d. d) b) }
 {}
 
-/// Two declarations of modules are equal where they are one with their spans set aside.
+/// Two declarations of modules are equal exactly if they are the same ignoring spans.
 #[tactic(auto, using(crate::proofs::LawNodes::equality_global_declarations))]
 pub fn global_declarations()
     ensures declaration { (a b : GlobalDeclaration) →
@@ -243,7 +243,7 @@ pub fn global_declarations()
         ≡ bare_parameter b) }
 {}
 
-/// Two modules are equal where they are one with their spans set aside.
+/// Two modules are equal exactly if they are the same ignoring spans.
 #[tactic(auto, using(wgsl_tree_code::proofs::SpanlessUnitNodes::translation_unit_equal))]
 pub fn units()
     ensures { (a b : TranslationUnit) → IsTrue (same (unit_code a) (unit_code b)) ↔ (bare_unit a

@@ -34,8 +34,8 @@ ghost use Rattle.wgsl_tree_simple.specs.declared.single_word.BreakStatement.{Bre
 ghost use Rattle.wgsl_tree_simple.specs.declared.single_word.ContinueStatement.{ContinueStatement};
 ghost use Rattle.wgsl_tree_simple.specs.declared.single_word.DiscardStatement.{DiscardStatement};
 
-/// Two declarations are equal where they are one with their spans set aside; two kinds where they
-/// are one.
+/// Two declarations are equal exactly if they are the same ignoring spans; two kinds exactly if
+/// they are the same.
 #[tactic(auto, using(crate::proofs::LawNodes::simple_equality_declarations))]
 pub fn declarations()
     ensures kind { (a b : DeclarationKind) → IsTrue (equal_kinds a b) ↔ (declaration_kind_view a
@@ -45,7 +45,7 @@ pub fn declarations()
         ≡ bare_attributed bare_declaration (declaration_view b)) }
 {}
 
-/// Two statements are equal where they are one with their spans set aside.
+/// Two statements are equal exactly if they are the same ignoring spans.
 #[tactic(auto, using(wgsl_tree_simple::proofs::Equalities::statements_agree))]
 pub fn simple_statements()
     ensures assignment { (a b : AssignmentStatement) → IsTrue (equal_assignments a b) ↔

@@ -37,14 +37,14 @@ pub fn equivalence()
     ensures { IsEquivalence equal_units }
 {}
 
-/// Two modules are equal where they are one with their spans set aside.
+/// Two modules are equal exactly if they are the same ignoring spans.
 #[tactic(auto, using(wgsl_tree_unit::proofs::Equalities::units_agree))]
 pub fn units()
     ensures { (a b : TranslationUnit) → IsTrue (equal_units a b) ↔ (bare_unit (unit_view a)
         ≡ bare_unit (unit_view b)) }
 {}
 
-/// Two directives are equal where they are one with the spans of their attributes set aside.
+/// Two directives are equal exactly if they are the same ignoring the spans of their attributes.
 #[tactic(auto, using(crate::proofs::LawNodes::unit_equality_directives))]
 pub fn directives()
     ensures directive { (a b : GlobalDirective) → IsTrue (equal_directives a b) ↔
@@ -60,7 +60,7 @@ pub fn directives()
         ≡ bare_attributed (λ d. d) (requires_directive_view b)) }
 {}
 
-/// Two declarations are equal where they are one with their spans set aside; so are their parts.
+/// Two declarations are equal exactly if they are the same ignoring spans; so are their parts.
 #[tactic(auto, using(crate::proofs::LawNodes::unit_equality_global_declarations))]
 pub fn global_declarations()
     ensures declaration { (a b : GlobalDeclaration) → IsTrue (equal_global_declarations a b) ↔
