@@ -3,13 +3,13 @@ use Rattle.std.specs.Prelude.{ℕ, zero, suc, if◌then◌else◌}
 use Rattle.grammar.specs.Grammar.{is_among}
 use Rattle.wgsl_model.specs.Tokens.Templates.{is_opening, is_closing, begins_with_greater, is_short_circuit}
 use Rattle.wgsl_theory_grammar.specs.Tokens.Refuted.{in_no_expression}
-use Rattle.wgsl_lex_templates.specs.declared.roles.Role.{Role}
-use Rattle.wgsl_lex_templates.specs.declared.roles.Role.TheVariants.{Opening, Closing, Greater, ShortCircuit, Stranger, Other}
+use Rattle.wgsl_lex_templates.specs.declared.roles.TemplateRole.{TemplateRole}
+use Rattle.wgsl_lex_templates.specs.declared.roles.TemplateRole.TheVariants.{Opening, Closing, Greater, ShortCircuit, Stranger, Other}
 use Rattle.wgsl_lex_templates.specs.declared.roles.Turn.{Turn}
 use Rattle.wgsl_lex_templates.specs.declared.roles.Turn.TheVariants.{Ends, Stops, Refutes, Takes}
 
 -- its role
-abbrev pub role : ℕ → Role
+abbrev pub role : ℕ → TemplateRole
 role class =
     if is_opening class then Opening
     else if is_closing class then Closing
@@ -19,7 +19,7 @@ role class =
     else Other
 
 -- what a token of a role does with a number of brackets open
-abbrev pub turn_by : ℕ → Role → Turn
+abbrev pub turn_by : ℕ → TemplateRole → Turn
 turn_by depth Opening = Takes (suc depth)
 turn_by zero Closing = Stops
 turn_by (suc depth) Closing = Takes depth

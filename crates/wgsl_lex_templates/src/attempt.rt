@@ -15,7 +15,7 @@ ghost use Rattle.wgsl_lex_templates.specs.Readings.{IsOutcome, costs};
 use crate::depth::nest_deeper;
 use crate::expression_list::is_expression_list;
 use crate::findings::Finding;
-use crate::kept::{Kept, Rest};
+use crate::kept::{ReadKinds, Rest};
 use crate::reading::{Reading, read, take};
 use crate::roles::is_less_than;
 use crate::shortened::shorten;
@@ -50,7 +50,7 @@ impl Scratch {
 
 /// Whether the kinds of what was read from a place on are a list of expressions. They are left in
 /// the space.
-fn is_list(kept: &Kept, start: usize, scratch: &mut Scratch) -> Result<bool, AllocError>
+fn is_list(kept: &ReadKinds, start: usize, scratch: &mut Scratch) -> Result<bool, AllocError>
     ensures value { IfOk result (λ list. (ts : List Token) →
         classes_of ts ≡ held kept.now.pieces.items start (length kept.now.pieces.items) →
         IsTrue list ↔ IsExpressionList ts) }
@@ -67,7 +67,7 @@ fn is_list(kept: &Kept, start: usize, scratch: &mut Scratch) -> Result<bool, All
 
 /// Keeps what was read from a place on in a shorter form, so that the tests of the lists around it
 /// do not go over all of it again, if that takes fewer pieces. Its kinds are in the space.
-fn keep_short(kept: &mut Kept, start: usize, scratch: &mut Scratch) -> Result<(), AllocError>
+fn keep_short(kept: &mut ReadKinds, start: usize, scratch: &mut Scratch) -> Result<(), AllocError>
     requires within { start ≤ length kept.old.pieces.items }
     requires kinds { classes scratch.old.kinds.items
         ≡ held kept.old.pieces.items start (length kept.old.pieces.items) }
@@ -93,7 +93,7 @@ fn keep_short(kept: &mut Kept, start: usize, scratch: &mut Scratch) -> Result<()
 pub(crate) fn attempt(
     tried: &Tried,
     comments: &mut Comments,
-    kept: &mut Kept,
+    kept: &mut ReadKinds,
     scratch: &mut Scratch,
     reads: &mut u128,
     source: &str,

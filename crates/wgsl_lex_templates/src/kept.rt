@@ -24,17 +24,17 @@ pub(crate) struct Rest {
 
 /// Pieces in the order in which they were read.
 #[derive(Drop)]
-pub(crate) struct Kept {
+pub(crate) struct ReadKinds {
     pieces: Vec<Piece>,
     /// Each stretch ends before its own place in the list.
     ghost earlier: { IsTrue (are_earlier 0 pieces.items) },
 }
 
-impl Kept {
-    pub(crate) fn new(alloc: Global) -> Kept
+impl ReadKinds {
+    pub(crate) fn new(alloc: Global) -> ReadKinds
         ensures { result.pieces.items ≡ [] }
     {
-        Kept {
+        ReadKinds {
             pieces: Vec::new(alloc),
         }
     }

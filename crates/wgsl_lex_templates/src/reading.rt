@@ -17,7 +17,7 @@ ghost use Rattle.wgsl_lex_templates.specs.Findings.{AreRight};
 ghost use Rattle.wgsl_lex_templates.specs.Readings.{IsReading, IsMet};
 
 use crate::findings::{Finding, Findings};
-use crate::kept::Kept;
+use crate::kept::ReadKinds;
 use crate::lists::Lists;
 use crate::roles::{Turn, ends_with_less_than, is_less_than, is_word, turn_of};
 use crate::tried::Tried;
@@ -92,7 +92,7 @@ fn list_after<'s>(
 }
 
 /// Puts the kinds of a list of one name after the others: they stand for those of any other list.
-fn push_list(kept: &mut Kept) -> Result<(), AllocError>
+fn push_list(kept: &mut ReadKinds) -> Result<(), AllocError>
     ensures { IfOk result (λ _. kept.new.pieces.items ≡ ((kept.old.pieces.items
         ++ Token TemplateArgsStart ∷ []) ++ Token Ident ∷ []) ++ Token TemplateArgsEnd ∷ []) }
 {
@@ -155,7 +155,7 @@ fn look_up<'s>(findings: &Findings, source: &'s str, kind: TokenKind, after: &'s
 pub(crate) fn read<'s>(
     tried: &Tried,
     comments: &mut Comments,
-    kept: &mut Kept,
+    kept: &mut ReadKinds,
     reads: &mut u128,
     source: &'s str,
     text: &'s str,

@@ -12,7 +12,7 @@ use wgsl_lex_token::kind::TokenKind;
 
 /// What a kind of token is to a template list.
 #[derive(Clone, Copy)]
-enum Role {
+enum TemplateRole {
     Opening,
     Closing,
     /// Begins with `>`.
@@ -24,17 +24,17 @@ enum Role {
     Other,
 }
 
-fn role_of(kind: TokenKind) -> Role
+fn role_of(kind: TokenKind) -> TemplateRole
     ensures { result ≡ role (class_of_kind kind) }
 {
     match kind {
-        TokenKind::SymParenLeft | TokenKind::SymBracketLeft => Role::Opening,
-        TokenKind::SymParenRight | TokenKind::SymBracketRight => Role::Closing,
+        TokenKind::SymParenLeft | TokenKind::SymBracketLeft => TemplateRole::Opening,
+        TokenKind::SymParenRight | TokenKind::SymBracketRight => TemplateRole::Closing,
         TokenKind::SymGreaterThan
         | TokenKind::SymGreaterThanEqual
         | TokenKind::SymShiftRight
-        | TokenKind::SymShiftRightAssign => Role::Greater,
-        TokenKind::SymAndAnd | TokenKind::SymOrOr => Role::ShortCircuit,
+        | TokenKind::SymShiftRightAssign => TemplateRole::Greater,
+        TokenKind::SymAndAnd | TokenKind::SymOrOr => TemplateRole::ShortCircuit,
         TokenKind::SymArrow
         | TokenKind::SymAttr
         | TokenKind::SymBraceLeft
@@ -53,10 +53,10 @@ fn role_of(kind: TokenKind) -> Role
         | TokenKind::SymOrEqual
         | TokenKind::SymXorEqual
         | TokenKind::SymShiftLeftAssign
-        | TokenKind::ReservedWord => Role::Stranger,
-        TokenKind::KwFalse | TokenKind::KwTrue => Role::Other,
-        _ if kind.is_keyword() => Role::Stranger,
-        _ => Role::Other,
+        | TokenKind::ReservedWord => TemplateRole::Stranger,
+        TokenKind::KwFalse | TokenKind::KwTrue => TemplateRole::Other,
+        _ if kind.is_keyword() => TemplateRole::Stranger,
+        _ => TemplateRole::Other,
     }
 }
 
@@ -78,15 +78,15 @@ pub(crate) fn turn_of(depth: usize, kind: TokenKind) -> Turn
     ensures { result ≡ turn depth (class_of_kind kind) }
 {
     match role_of(kind) {
-        Role::Opening => Turn::Takes(depth + 1),
-        Role::Closing if depth == 0 => Turn::Stops,
-        Role::Closing => Turn::Takes(depth - 1),
-        Role::Greater if depth == 0 => Turn::Ends,
-        Role::Greater => Turn::Takes(depth),
-        Role::ShortCircuit if depth == 0 => Turn::Stops,
-        Role::ShortCircuit => Turn::Takes(depth),
-        Role::Stranger => Turn::Refutes,
-        Role::Other => Turn::Takes(depth),
+        TemplateRole::Opening => Turn::Takes(depth + 1),
+        TemplateRole::Closing if depth == 0 => Turn::Stops,
+        TemplateRole::Closing => Turn::Takes(depth - 1),
+        TemplateRole::Greater if depth == 0 => Turn::Ends,
+        TemplateRole::Greater => Turn::Takes(depth),
+        TemplateRole::ShortCircuit if depth == 0 => Turn::Stops,
+        TemplateRole::ShortCircuit => Turn::Takes(depth),
+        TemplateRole::Stranger => Turn::Refutes,
+        TemplateRole::Other => Turn::Takes(depth),
     }
 }
 

@@ -6,7 +6,7 @@ ghost use Rattle.wgsl_lex_templates.specs.Spans.{end_from};
 ghost use Rattle.wgsl_lex_templates.specs.Lists.{AreLists, less_than_signs};
 
 use crate::attempt::{Scratch, attempt};
-use crate::kept::Kept;
+use crate::kept::ReadKinds;
 use crate::lists::Lists;
 use crate::tried::Tried;
 use std::alloc::{AllocError, Global};
@@ -81,7 +81,7 @@ pub fn discover_within(alloc: Global, source: &str, depth: usize) -> Result<Temp
 {
     let mut tried = Tried::new(alloc);
     let mut comments = Comments::new(alloc);
-    let mut kept = Kept::new(alloc);
+    let mut kept = ReadKinds::new(alloc);
     let mut scratch = Scratch::new(alloc, depth);
     let mut attempts = 0usize;
     let mut reads = 0u128;

@@ -5,7 +5,7 @@ ghost use Rattle.wgsl_lex_templates.specs.Findings.{begun_list, greater_place, I
 ghost use Rattle.wgsl_lex_templates.specs.Spans.{is_before_all};
 
 use crate::findings::{Finding, Findings};
-use crate::kept::Kept;
+use crate::kept::ReadKinds;
 use crate::lists::Lists;
 use std::alloc::{AllocError, Global};
 use wgsl_span::Span;
@@ -37,7 +37,7 @@ impl Tried {
     /// `<`, none stands for them.
     pub(crate) fn add(
         &mut self,
-        kept: &mut Kept,
+        kept: &mut ReadKinds,
         read: usize,
         tokens: u128,
         start: usize,

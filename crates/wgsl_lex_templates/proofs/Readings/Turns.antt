@@ -7,7 +7,7 @@ use Rattle.wgsl_theory_grammar.specs.Tokens.Refuted.{in_no_expression}
 use Rattle.wgsl_theory_grammar.proofs.Tokens.Classes.{goes_on_zero, goes_on_deeper}
 use Rattle.wgsl_theory_templates.proofs.Swaps.Attempts.{IsTaken}
 use Rattle.wgsl_lex_templates.specs.Roles.{turn, turn_by}
-use Rattle.wgsl_lex_templates.specs.declared.roles.Role.TheVariants as role
+use Rattle.wgsl_lex_templates.specs.declared.roles.TemplateRole.TheVariants as role
 use Rattle.wgsl_lex_templates.specs.declared.roles.Turn.{Turn}
 use Rattle.wgsl_lex_templates.specs.declared.roles.Turn.TheVariants as turn
 

@@ -3,7 +3,7 @@ use Rattle.std.specs.List.{All}
 use Rattle.wgsl_lex_token.specs.View.{classes}
 use Rattle.wgsl_lex_templates.specs.Kept.{held}
 use Rattle.wgsl_lex_templates.proofs.Readings.Rests.{held_left, left_to_do}
-use Rattle.wgsl_lex_templates.proofs.kept.Kept.push_kinds.Given as goal
+use Rattle.wgsl_lex_templates.proofs.kept.ReadKinds.push_kinds.Given as goal
 
 -- what was asked for is what the kinds have, and then what is left
 abbrev pub invariant-pieces : goal.invariant-pieces

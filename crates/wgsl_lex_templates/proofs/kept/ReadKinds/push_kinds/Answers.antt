@@ -4,7 +4,7 @@ use Rattle.wgsl_lex_token.specs.View.{class_of_kind, classes}
 use Rattle.wgsl_lex_templates.proofs.Readings.Pushes.{pushed}
 use Rattle.wgsl_lex_templates.proofs.Readings.Held.{gone_through, ends_before}
 use Rattle.wgsl_lex_templates.proofs.Readings.Rests.{held_left, rest_begun, token_taken, last_begun, stretch_begun, less_at_rest, less_after, less_at_last, less_at_stretch}
-use Rattle.wgsl_lex_templates.proofs.kept.Kept.push_kinds.Goals as goal
+use Rattle.wgsl_lex_templates.proofs.kept.ReadKinds.push_kinds.Goals as goal
 
 -- the last rest is taken
 pub pieces-smaller-then-left : goal.pieces-smaller-then-left

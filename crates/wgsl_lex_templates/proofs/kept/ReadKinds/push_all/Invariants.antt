@@ -3,7 +3,7 @@ use Rattle.std.proofs.Common.{◌≡◌, length, take}
 use Rattle.wgsl_lex_token.specs.View.{classes}
 use Rattle.wgsl_lex_templates.specs.Kept.{BeginWith}
 use Rattle.wgsl_lex_templates.proofs.Readings.Pieces.{held_from}
-use Rattle.wgsl_lex_templates.proofs.kept.Kept.push_all.Given as goal
+use Rattle.wgsl_lex_templates.proofs.kept.ReadKinds.push_all.Given as goal
 
 abbrev pub invariant-loop-kind : goal.invariant-loop-kind
 invariant-loop-kind l =

@@ -5,7 +5,7 @@ use Rattle.wgsl_lex_token.specs.View.{class_of_kind}
 use Rattle.wgsl_lex_templates.specs.declared.kept.Piece.TheVariants.{Token}
 use Rattle.wgsl_lex_templates.proofs.Readings.Pieces.{token_held, one_more, no_shorter}
 use Rattle.wgsl_lex_templates.proofs.Readings.Pushes.{pushed}
-use Rattle.wgsl_lex_templates.proofs.kept.Kept.push_all.Goals as goal
+use Rattle.wgsl_lex_templates.proofs.kept.ReadKinds.push_all.Goals as goal
 
 pub loop-kind-preserved : goal.loop-kind-preserved
 loop-kind-preserved c =

@@ -1,7 +1,7 @@
 use Rattle.std.proofs.Common.{arith}
 use Rattle.std.proofs.lemmas.Grind.{common_steps}
 use Rattle.wgsl_lex_templates.proofs.Readings.Held.{earlier_cut}
-use Rattle.wgsl_lex_templates.proofs.kept.Kept.truncate.Goals as goal
+use Rattle.wgsl_lex_templates.proofs.kept.ReadKinds.truncate.Goals as goal
 
 pub invariant_of-self : goal.invariant_of-self
 invariant_of-self c =
