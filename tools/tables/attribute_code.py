@@ -86,7 +86,8 @@ class Attributes:
             "ghost use Rattle.wgsl_model.specs.Printed.Attributes.{print_attribute};", "",
             *self.uses(), "", f"/// {self.kind.doc}", "#[derive(PartialEq, Debug, Drop)]",
             "pub enum Attribute {", *(self.variant(*part) for part in self.kind.parts), "}", "",
-            "pub type AttributeNode = Spanned<Attribute>;", "",
+            "/// An attribute and where it is.", "pub type AttributeNode = Spanned<Attribute>;", "",
+            "/// The attributes of a node, in the order of the text.",
             "pub type Attributes = Vec<AttributeNode>;", "",
             "impl fmt::Display for Attribute {",
             "    ghost output = "

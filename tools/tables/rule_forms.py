@@ -106,7 +106,7 @@ SOUND = Form(
 
 MOVES = Form(
     folder="wgsl_theory_tidy/proofs/Moved",
-    head="What each rule derives is derived wherever the tokens stand",
+    head="What each rule derives is derived wherever the tokens are",
     says="NAME_moves : MovesBy (written NAME) (Alike NAME)",
     table="rules : (n : Symbol) → MovesBy (written n) (Alike n)",
     places={"MovesBy": 0},

@@ -24,7 +24,10 @@ def writer(cycle, name):
 
 def function(name, parameter, type_, code, body, public=False):
     """A function of the cycle, whose clause says the code whose form it writes."""
-    return (f"#[cycle(statements)]\n{'pub ' * public}fn {name}<W: fmt::Write>("
+    what = name.removeprefix("write_").replace("_", " ")
+    article = "an" if what[0] in "aeiou" else "a"
+    doc = f"/// Writes the text form of {article} {what}, without a span.\n" * public
+    return (f"{doc}#[cycle(statements)]\n{'pub ' * public}fn {name}<W: fmt::Write>("
             f"{parameter}: &{type_}, f: &mut fmt::Formatter<W>) -> fmt::Result\n"
             f"    ensures {{ WritesOnOk W.write_str_gives f.old result\n"
             f"        (form ({code})) f.new }}\n{{\n{body}\n}}\n")

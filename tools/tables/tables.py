@@ -424,7 +424,7 @@ class Writer:
         self.clauses("empties", {n: str(tables.empty[n]).lower() for n in self.order})
         self.sets("mores", "after", "the classes that could go on after", tables.more)
         self.numbers("ranks", "how many symbols can follow one another before a token is taken", tables.rank)
-        self.numbers("heights", "how many symbols stand within one another at least", tables.height)
+        self.numbers("heights", "how many symbols are within one another at least", tables.height)
         limit = max(map(tables.all_ranks, tables.table.values()))
         self.lines += ["", "-- the greatest rank of a part", "abbrev pub rank_limit : ℕ", f"rank_limit = {limit}",
                        "", "-- all of them", "abbrev pub tables : Tables FactoredSymbol",

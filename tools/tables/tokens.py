@@ -117,7 +117,7 @@ ghost use Rattle.std.specs.Prelude.{{◌≡◌}};
 ghost use Rattle.wgsl_lex_token.specs.Groups.{{word_of_class}};
 ghost use Rattle.wgsl_lex_token.specs.View.{{class_of_kind}};
 
-/// Which token it is, without what it holds: a [`crate::token::Token`] without its fields.
+/// The kinds of tokens: each is a [`crate::token::Token`] without what it holds.
 #[derive(Clone, Copy, Debug, PartialEq, Eq)]
 pub enum TokenKind {{
 {variants}}}
@@ -127,7 +127,7 @@ impl TokenKind {{
     pub const WORDS: &'static [TokenKind] = &[
 {words}    ];
 
-    /// The text of a kind that holds nothing, and the empty text for the others.
+    /// Returns the text of a token of this kind that holds nothing, and the empty text for others.
     pub fn text(self) -> &'static str
         ensures {{ result.now ≡ word_of_class (class_of_kind self) }}
     {{
@@ -163,7 +163,7 @@ pub enum Token {{
 {variants}}}
 
 impl Token {{
-    /// The token of a kind, with an empty text or the number 0 where it holds one.
+    /// Returns the token of a kind, with an empty text or the number 0 where it holds one.
     pub fn from_kind(alloc: Global, kind: TokenKind) -> Token
         ensures {{ kind_view result ≡ view_of_class (class_of_kind kind) }}
     {{
@@ -171,7 +171,7 @@ impl Token {{
 {from_kind}        }}
     }}
 
-    /// Which token it is.
+    /// Returns the kind of the token.
     pub fn kind(&self) -> TokenKind
         ensures {{ class_of_kind result ≡ (kind_view self.now).class }}
     {{

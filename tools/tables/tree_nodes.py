@@ -199,7 +199,8 @@ class Writer:
         body = f"matches!(self, {full})"
         if enum.name in LISTED:
             body = f"match self {{ {full} => true, {self.others(enum, variant)} => false, }}"
-        return (f"    pub fn {name}(&self) -> bool\n"
+        return (f"    /// Returns whether this is `{enum.name}::{variant}`.\n"
+                f"    pub fn {name}(&self) -> bool\n"
                 f"        ensures {{ result ≡ {name} ({enum.view.name} self.now) }}\n"
                 f"    {{\n        {body}\n    }}\n")
 
@@ -216,7 +217,10 @@ class Writer:
         if enum.name in LISTED:
             others = self.others(enum, variant)
             let = f"match self {{ {full}(inner) => inner, {others} => unreachable!(), }}"
-        return (f"    pub fn unwrap_{name}(self){f' -> {self.held(held)}' if held else ''}\n"
+        doc = (f"Returns what this `{full}` holds." if held
+               else f"Consumes this `{full}`, which holds nothing.")
+        return (f"    /// {doc}\n"
+                f"    pub fn unwrap_{name}(self){f' -> {self.held(held)}' if held else ''}\n"
                 f"        requires {{ IsTrue (is_{name} ({enum.view.name} self)) }}\n"
                 f"        ensures {{ self ≡ {snake(enum.name)}.{variant}{result} }}\n"
                 f"    {{\n        {let}\n    }}\n")

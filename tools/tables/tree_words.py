@@ -41,7 +41,7 @@ def from_str(kind):
     text, view = f"{stem(kind)}_text", f"{stem(kind)}_view"
     return [
         f"impl {kind.name} {{",
-        "    /// The value whose word the text is.",
+        "    /// Returns the value whose word the text is, or an error where there is none.",
         "    pub fn from_str(text: &str) -> Result<Self, ()>",
         "        ensures { MatchResult result",
         f"            (λ value. text.now ≡ {text} ({view} value))",

@@ -73,7 +73,7 @@ static WORDS: [(&str, Meaning); {len(entries)}] = [
 // characters is moved. This table and the next are written by tools/tables/word_table.py.
 static MOVES: [u8; {GROUPS}] = [{array(moves)}];
 
-// For each sum, where the only word that has it stands among the words; 0 where none has it.
+// For each sum, where the only word that has it is among the words; 0 where none has it.
 static PLACES: [u8; {SUMS}] = [{array(places)}];
 
 """

@@ -93,7 +93,7 @@ macro_rules! words {
 
 words! {
     // Written by tools/tables/nodes.py from crates/wgsl_model/nodes.
-    /// How a diagnostic is reported.
+    /// A severity: how a diagnostic is reported.
     DiagnosticSeverity {
         /// `error`.
         Error = "error",
@@ -104,7 +104,7 @@ words! {
         /// `off`.
         Off = "off",
     }
-    /// Where a variable is stored.
+    /// An address space: where a variable is stored.
     AddressSpace {
         /// `function`.
         Function = "function",
@@ -117,7 +117,7 @@ words! {
         /// `storage`.
         Storage = "storage",
     }
-    /// How memory is used.
+    /// An access mode: how memory is used.
     AccessMode {
         /// `read`.
         Read = "read",
@@ -203,7 +203,7 @@ words! {
         /// `<<=`.
         ShiftLeftAssign = "<<=",
     }
-    /// What a stage is given or gives.
+    /// A built-in value, which a stage is given or gives.
     BuiltinValue {
         /// `vertex_index`.
         VertexIndex = "vertex_index",
@@ -236,7 +236,7 @@ words! {
         /// `subgroup_size`.
         SubgroupSize = "subgroup_size",
     }
-    /// How a value is interpolated.
+    /// An interpolation type: how a value is interpolated.
     InterpolationType {
         /// `perspective`.
         Perspective = "perspective",
@@ -245,7 +245,7 @@ words! {
         /// `flat`.
         Flat = "flat",
     }
-    /// Where a value is sampled.
+    /// An interpolation sampling: where a value is sampled.
     InterpolationSampling {
         /// `center`.
         Center = "center",

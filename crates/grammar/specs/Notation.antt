@@ -44,7 +44,7 @@ abbrev pub ◌▹◌ : {N : Type 0} {Value : N → Type 0} {A : Type 0} → ℕ 
 abbrev pub ◌◃◌ : {N : Type 0} {Value : N → Type 0} {A : Type 0} → Grammar N Value A → ℕ → Grammar N Value A
 ◌◃◌ {A} g c = mapped {A = A × Token} (λ p. p.0) (sequence g (token (c ∷ [])))
 
--- a token of a class, which stands for a value
+-- a token of a class, which has a value
 abbrev pub ◌means◌ : {N : Type 0} {Value : N → Type 0} {A : Type 0} → ℕ → A → Grammar N Value A
 ◌means◌ c a = mapped (λ (t : Token). a) (token (c ∷ []))
 

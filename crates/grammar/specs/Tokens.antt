@@ -7,7 +7,7 @@ pub data Payload : Type 0 where
   name : List ℕ → Payload
   number : ℤ → Payload
 
--- a token from a place up to another; its class tells which kind of token it is
+-- a token from a place up to another; its class says which kind of token it is
 pub record Token : Type 0 where
   pub class : ℕ
   pub payload : Payload

@@ -8,6 +8,7 @@ use crate::{Error, ErrorKind, ParseError};
 use std::alloc::{AllocError, Global};
 
 impl ErrorKind {
+    /// Returns a copy, unless allocation fails.
     pub fn clone(&self, alloc: Global) -> Result<Self, AllocError>
         ensures number { IfOk result (λ copy. kind_number copy ≡ kind_number self.now) }
         ensures texts { IfOk result (λ copy. kind_texts copy ≡ kind_texts self.now) }
@@ -35,6 +36,7 @@ impl ErrorKind {
 }
 
 impl ParseError {
+    /// Returns a copy, unless allocation fails.
     pub fn clone(&self, alloc: Global) -> Result<Self, AllocError>
         ensures number { IfOk result (λ copy.
             kind_number (error_kind_of copy) ≡ kind_number (error_kind_of self.now)) }
@@ -55,6 +57,7 @@ impl ParseError {
 }
 
 impl Error {
+    /// Returns a copy, unless allocation fails.
     pub fn clone(&self, alloc: Global) -> Result<Self, AllocError>
         ensures number { IfOk result (λ copy. kind_number copy.error ≡ kind_number self.now.error) }
         ensures texts { IfOk result (λ copy. kind_texts copy.error ≡ kind_texts self.now.error) }

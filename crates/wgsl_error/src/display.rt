@@ -18,7 +18,7 @@ pub struct WithoutExpected<'e> {
 }
 
 impl Error {
-    /// The error as it is shown without what was expected.
+    /// Returns the error as it is shown without what was expected.
     pub fn without_expected(&self) -> WithoutExpected<'_>
         ensures { shown_error result ≡ self.now }
     {

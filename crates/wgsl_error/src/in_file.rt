@@ -21,8 +21,8 @@ pub struct ErrorInFile<'e> {
 }
 
 impl Error {
-    /// The error in the file with this name and this source. The span's places are byte offsets
-    /// into the source; every span is accepted, as by `with_source`.
+    /// Returns the error in the file with this name and this source. The span's places are byte
+    /// offsets into the source; every span is accepted, as by `with_source`.
     pub fn in_file<'e>(&'e self, name: &'e str, source: &'e str) -> ErrorInFile<'e>
         ensures error { result.error.now ≡ self.now }
         ensures name { result.name.now ≡ name.now }

@@ -12,7 +12,7 @@ pub use in_file::ErrorInFile;
 pub use snippet::ErrorWithSource;
 use wgsl_span::Span;
 
-/// What is wrong with a text.
+/// The kinds of errors of a text.
 #[derive(PartialEq, Debug, Drop)]
 pub enum ErrorKind {
     InvalidToken,
@@ -33,7 +33,7 @@ pub enum ErrorKind {
     OutOfMemory,
 }
 
-/// What is wrong with a list of tokens.
+/// The kinds of errors of a list of tokens.
 #[derive(PartialEq, Debug, Default, Drop)]
 pub enum ParseError {
     #[default]
@@ -45,7 +45,7 @@ pub enum ParseError {
     OutOfMemory,
 }
 
-/// What is wrong with a text, and where.
+/// An error of a text: its kind, and where it is.
 #[derive(PartialEq, Debug, Drop)]
 pub struct Error {
     pub error: ErrorKind,

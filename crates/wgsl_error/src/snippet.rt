@@ -30,9 +30,9 @@ pub struct ErrorWithSource<'s> {
 impl std::error::Error for ErrorWithSource<'_> {}
 
 impl Error {
-    /// The error with its source. The span's places are byte offsets into the source; every span is
-    /// accepted: a place past the end stands for the end, one inside a character for its start, and
-    /// an end before the start for the start.
+    /// Returns the error with its source. The span's places are byte offsets into the source; every
+    /// span is accepted: a place past the end is taken for the end, one inside a character for its
+    /// start, and an end before the start for the start.
     pub fn with_source(self, source: CowStr<'_>) -> ErrorWithSource<'_>
         ensures { result ≡ record { error = self; source = source.entry } }
     {
@@ -41,12 +41,14 @@ impl Error {
 }
 
 impl<'s> ErrorWithSource<'s> {
+    /// Creates an error with its source.
     pub fn new(error: Error, source: CowStr<'s>) -> Self
         ensures { result ≡ record { error = error; source = source.entry } }
     {
         ErrorWithSource { error, source }
     }
 
+    /// Returns a copy, unless allocation fails.
     pub fn clone(&self, alloc: Global) -> Result<Self, AllocError>
         ensures number { IfOk result (λ copy.
             kind_number copy.error.error ≡ kind_number self.now.error.error) }

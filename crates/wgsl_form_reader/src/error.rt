@@ -7,7 +7,7 @@ use std::alloc::{AllocError, AllocFailed};
 use std::fmt;
 use std::fmt::Write;
 
-/// Why a text is not the form of a tree.
+/// The reasons for which a text is not the form of a tree.
 #[derive(Clone, Copy, Debug, PartialEq, Eq)]
 pub enum FormErrorKind {
     /// An allocation failed.
@@ -22,7 +22,7 @@ pub enum FormErrorKind {
     Trailing,
 }
 
-/// Why a text is not the form of a tree, and at which byte.
+/// A reason for which a text is not the form of a tree, and at which byte.
 #[derive(Clone, Copy, Debug, PartialEq, Eq)]
 pub struct FormError {
     pub kind: FormErrorKind,

@@ -8,24 +8,28 @@ use crate::error::{FormError, FormErrorKind};
 use crate::reader::Reader;
 
 impl<'t> Reader<'t> {
+    /// Reads a `usize`.
     pub fn read_usize(&mut self) -> Result<usize, FormError>
         ensures { IfOk result (λ n. IsRead (natural n) self.old self.new) }
     {
         Ok(self.read_natural(u64::MAX)? as usize)
     }
 
+    /// Reads a `u32`.
     pub fn read_u32(&mut self) -> Result<u32, FormError>
         ensures { IfOk result (λ n. IsRead (natural n) self.old self.new) }
     {
         Ok(self.read_natural(u64::from(u32::MAX))? as u32)
     }
 
+    /// Reads an `i32`.
     pub fn read_i32(&mut self) -> Result<i32, FormError>
         ensures { IfOk result (λ n. IsRead (number n) self.old self.new) }
     {
         Ok(self.read_signed(i32::MAX as u64)? as i32)
     }
 
+    /// Reads an `i64`.
     pub fn read_i64(&mut self) -> Result<i64, FormError>
         ensures { IfOk result (λ n. IsRead (number n) self.old self.new) }
     {

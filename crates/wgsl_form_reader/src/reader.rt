@@ -7,7 +7,7 @@ ghost use Rattle.wgsl_form_reader.specs.Reading.{rest, IsRead};
 use crate::error::{FormError, FormErrorKind};
 use wgsl_span::Span;
 
-/// What of a form is still to be read.
+/// A reader of a form, which holds what is still to be read.
 #[derive(Drop)]
 pub struct Reader<'t> {
     pub(crate) rest: &'t str,
@@ -15,6 +15,7 @@ pub struct Reader<'t> {
 }
 
 impl<'t> Reader<'t> {
+    /// Creates a reader at the start of a form.
     pub fn new(text: &'t str) -> Self
         ensures { rest result ≡ text.now }
     {
@@ -24,12 +25,12 @@ impl<'t> Reader<'t> {
         }
     }
 
-    /// The byte of the form that is read next.
+    /// Returns the byte of the form that is read next.
     pub fn place(&self) -> usize {
         self.size.saturating_sub(self.rest.len())
     }
 
-    /// An error at what is read next.
+    /// Returns an error at what is read next.
     pub fn error(&self, kind: FormErrorKind) -> FormError {
         FormError {
             kind,
@@ -37,7 +38,8 @@ impl<'t> Reader<'t> {
         }
     }
 
-    /// The name that is next, of a word as `"Void"` or of a variant as `{"If":`, else no text.
+    /// Returns the name that is next, of a word as `"Void"` or of a variant as `{"If":`, else no
+    /// text.
     pub fn next_name(&self) -> &'t str {
         let rest = self.rest.strip_prefix('{').unwrap_or(self.rest);
         match rest.strip_prefix('"') {
@@ -46,7 +48,7 @@ impl<'t> Reader<'t> {
         }
     }
 
-    /// Passes over a part that is next, and tells whether it is.
+    /// Passes over a part that is next, and returns whether it is.
     pub fn eat(&mut self, part: &'static str) -> bool
         ensures eaten { result ≡ true → rest self.old ≡ part.now ++ rest self.new }
         ensures kept { result ≡ false → rest self.new ≡ rest self.old }
@@ -71,7 +73,7 @@ impl<'t> Reader<'t> {
         }
     }
 
-    /// That nothing is left.
+    /// Returns an error unless nothing is left.
     pub fn end(&self) -> Result<(), FormError>
         ensures { OnOk result (rest self.now ≡ []) }
     {
@@ -82,6 +84,7 @@ impl<'t> Reader<'t> {
         }
     }
 
+    /// Reads `true` or `false`.
     pub fn read_boolean(&mut self) -> Result<bool, FormError>
         ensures { IfOk result (λ b. IsRead (boolean b) self.old self.new) }
     {

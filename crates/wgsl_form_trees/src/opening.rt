@@ -9,7 +9,7 @@ use wgsl_tree_expression::{
 };
 use wgsl_tree_words::BinaryOperator;
 
-/// What is read of an expression before what is on its left side.
+/// A part of an expression that is read before what is on its left side.
 #[derive(Drop)]
 pub enum Opening {
     Component(Ident),
@@ -20,7 +20,7 @@ pub enum Opening {
 impl Opening {
     ghost use Rattle.wgsl_form_trees.specs.Openings.{around};
 
-    /// The expression with this on its left side.
+    /// Returns the expression with this part and the expression on its left side.
     pub fn around(self, left: ExpressionNode) -> Expression
         ensures { expression_view result ≡ around self (expression_node_view left) }
     {

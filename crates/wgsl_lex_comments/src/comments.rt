@@ -39,6 +39,7 @@ pub struct Comments {
 }
 
 impl Comments {
+    /// Creates an empty list of comments.
     pub fn new(alloc: Global) -> Comments
         ensures { result.found.items ≡ [] }
     {
@@ -48,7 +49,8 @@ impl Comments {
         }
     }
 
-    /// The text after the blank space and the comments at the front of a text that ends the source.
+    /// Returns the text after the blank space and the comments at the front of a text that ends the
+    /// source.
     pub fn skip_trivia<'s>(&mut self, source: &'s str, text: &'s str) -> Result<&'s str, AllocError>
         requires end { (before : List ℕ) × (chars source.now ≡ before ++ chars text.now) }
         requires known { AreComments (chars source.now) self.old.found.items }

@@ -20,7 +20,7 @@ numbers = (whole_number empty, AbstractInt) ∷ (whole_number i_suffix, I32)
     ∷ (whole_number u_suffix, U32) ∷ (abstract_float, AbstractFloat) ∷ (pattern.float f_suffix, F32)
     ∷ (pattern.float h_suffix, F16) ∷ []
 
--- ---- what is left of them: after characters that stand for all that lead there
+-- ---- what is left of them: after characters that represent all that lead there
 
 -- after a digit that is not `0`
 abbrev pub digits_left : List (Pattern × ℕ)

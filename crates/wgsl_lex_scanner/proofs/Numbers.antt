@@ -1,4 +1,4 @@
--- Numbers: the longest one at the front of a text, and what it stands for.
+-- Numbers: the longest one at the front of a text, and its value.
 use Rattle.std.proofs.Common.{◌≡◌, ℕ, ◌+◌, ◌*◌, ◌^◌, Bool, true, false, cond, ◌==◌, refl, sym, ap, subst, List, [], ◌∷◌, ◌++◌, Option, Some, None, ◌∙◌, append_assoc, zero-add, lit<}
 use Rattle.std.specs.Prelude.{unwrap_or}
 use Rattle.std.specs.Char.{is_ascii_digit, is_ascii_hexdigit, is_digit, digit_value}
@@ -24,7 +24,7 @@ use Rattle.wgsl_model.proofs.Tokens.Characters.{other_than, digit_not_start}
 use Rattle.wgsl_lex_scanner.proofs.Cut.{found, front-whole}
 use Rattle.wgsl_lex_scanner.proofs.CharacterClasses.{is_digit-decimal, is_digit-hexadecimal, skip_digits-is}
 
--- ---- the class of a number tells what it stands for
+-- ---- the class of a number says what its value is
 
 this_class : (word : List ℕ) (x : Option Kind) (class k : ℕ) → x ≡ number_by_class class word
     → Some class ≡ Some k → x ≡ number_by_class k word
@@ -52,7 +52,7 @@ number_of-class word k =
 abbrev pub IsReadNumber : ℕ → List ℕ → NumericLiteral × List ℕ → Type 0
 IsReadNumber c cs found = (raw_at (c ∷ cs) ≡ numbered (c ∷ cs) found) × (c ∷ cs ≡ front (c ∷ cs) found.1 ++ found.1)
 
--- what a number stands for is what its class makes of its spelling
+-- the value of a number is what its class makes of its spelling
 abbrev IsValued : List ℕ → NumericLiteral × List ℕ → Type 0
 IsValued text found = number_by_class (class_and_rest found).0 (front text found.1)
     ≡ number_kind found.0 (front text found.1)

@@ -12,7 +12,7 @@ pub data NumericLiteral : Type 0 where
   integer : ℕ → Option Kind → NumericLiteral
   float : ℕ → NumericLiteral
 
--- what the spelling of a number of a class stands for
+-- the value of the spelling of a number of a class
 abbrev pub number_by_class : ℕ → List ℕ → Option Kind
 number_by_class class word =
     if class == AbstractInt then number_below AbstractInt (2 ^ 63) (number_value word)
@@ -21,7 +21,7 @@ number_by_class class word =
     else if class == AbstractFloat then float_of AbstractFloat word
     else float_of class (without_last word)
 
--- what a number of this spelling stands for
+-- the value of a number of this spelling
 abbrev pub number_kind : NumericLiteral → List ℕ → Option Kind
 number_kind (integer class kind) word = kind
 number_kind (float class) word = number_by_class class word

@@ -16,12 +16,14 @@ static WORD_BYTES: [u8; 256] = *b"\
     ................................\
     ................................";
 
+/// Returns whether a character is blank space.
 pub fn is_blank(c: char) -> bool
     ensures { result ≡ is_blank c }
 {
     c.is_whitespace() || c == '\u{200E}' || c == '\u{200F}'
 }
 
+/// Returns whether a character is a line break.
 pub fn is_line_break(c: char) -> bool
     ensures { result ≡ is_line_break c }
 {

@@ -9,7 +9,7 @@ use crate::digits::skip_digits;
 use crate::lexeme::Lexeme;
 use crate::text::{split_first, without_last};
 
-/// The type of a float, which its suffix tells.
+/// The type of a float, which depends on its suffix.
 #[derive(Clone, Copy)]
 pub(crate) enum FloatType {
     AbstractFloat,

@@ -10,7 +10,8 @@ use std::alloc::{AllocError, Global};
 use wgsl_lex_token::kind::TokenKind;
 use wgsl_lex_token::token::Token;
 
-/// A token whose name is still a part of the source, as is the spelling of a float without its suffix. A plain one holds nothing.
+/// A token whose name is still a part of the source, as is the spelling of a float without its
+/// suffix. A plain one holds nothing.
 #[derive(Clone, Copy, Debug, PartialEq)]
 pub enum Lexeme<'s> {
     Plain(TokenKind),
@@ -25,7 +26,7 @@ pub enum Lexeme<'s> {
 }
 
 impl<'s> Lexeme<'s> {
-    /// Which token it is.
+    /// Returns the kind of the token.
     pub fn kind(self) -> TokenKind
         ensures { class_of_kind result ≡ (lexeme_view self.entry).class }
     {
@@ -42,7 +43,7 @@ impl<'s> Lexeme<'s> {
         }
     }
 
-    /// The name, if it is one.
+    /// Returns the name, if the token is one.
     pub fn name(self) -> Option<&'s str>
         ensures { IfSome result (λ name. lexeme_view self.entry ≡ named Ident name.now) }
     {
@@ -59,7 +60,7 @@ impl<'s> Lexeme<'s> {
         }
     }
 
-    /// The token, with a name or spelling of its own.
+    /// Returns the token, with a name or spelling of its own.
     pub fn to_token(self, alloc: Global) -> Result<Token, AllocError>
         ensures { IfOk result (λ token. kind_view token ≡ lexeme_view self.entry) }
     {

@@ -14,7 +14,8 @@ use crate::text::{before, split_first};
 use crate::trivia::after_trivia;
 use crate::word::{after_word, word};
 
-/// What is at the front of a text, after its trivia: the text from there, and the text after it.
+/// The result of a scan: a token, an invalid one or none, with the text from there and the text
+/// after it.
 #[derive(Clone, Copy, Debug, PartialEq)]
 pub enum Scanned<'s> {
     NoneLeft,
@@ -68,7 +69,7 @@ fn scan_at(text: &str) -> Scanned<'_>
     }
 }
 
-/// The token at the front of a text.
+/// Returns the token at the front of a text, after its trivia.
 pub fn scan(text: &str) -> Scanned<'_>
     ensures value { scanned_view result ≡ raw (chars text.now) }
     ensures shorter { IsShorter (length text.now) result }
@@ -76,7 +77,7 @@ pub fn scan(text: &str) -> Scanned<'_>
     scan_at(after_trivia(text))
 }
 
-/// The place of the rest of a source of a number of bytes.
+/// Returns the place of the rest of a source of a number of bytes.
 pub fn place(total: usize, rest: &str) -> usize
     ensures { result ≡ total - length (encode_utf8_all (chars rest.now)) }
 {

@@ -4,7 +4,7 @@ ghost use Rattle.std.specs.Prelude.{◌≡◌, ◌<◌, ◌∷◌, ◌++◌, [],
 ghost use Rattle.wgsl_model.specs.Tokens.Numbers.{without_last};
 ghost use Rattle.wgsl_model.specs.Tokens.Raw.{front};
 
-/// The first character and the text after it. It is decoded only past ASCII.
+/// Returns the first character and the text after it. It is decoded only past ASCII.
 pub fn split_first(text: &str) -> Option<(char, &str)>
     ensures parts { MatchOption result (chars text.now ≡ []) (λ found.
         chars text.now ≡ found.0 ∷ chars found.1.now) }

@@ -9,7 +9,7 @@ ghost use Rattle.wgsl_lex_scanner.specs.Trivia.{IsStep, IsShorterStep, after_blo
 use crate::characters::{begins_no_comment, is_blank, is_blank_byte, is_line_break, is_line_byte};
 use crate::text::split_first;
 
-/// What a text begins with outside of tokens, and the text after it.
+/// A blank or the sign of a comment at the front of a text, and the text after it.
 #[derive(Clone, Copy)]
 pub enum Piece<'s> {
     Blank(&'s str),
@@ -19,7 +19,7 @@ pub enum Piece<'s> {
     BlockComment(&'s str),
 }
 
-/// What the front of a text in a block comment does, and the text after it.
+/// A step through the text of a block comment, and the text after it.
 #[derive(Clone, Copy)]
 pub enum Step<'s> {
     /// There is none.
@@ -55,7 +55,7 @@ fn after_piece(text: &str) -> Option<&str>
     }
 }
 
-/// What a text begins with outside of tokens.
+/// Returns the blank or the sign of a comment that a text begins with, if it does.
 #[inline(always)]
 pub fn piece_at(text: &str) -> Option<Piece<'_>>
     ensures value { MatchOption result (BeginsWithNone (chars text.now)) (λ piece.
@@ -93,7 +93,7 @@ fn other_piece(text: &str) -> Option<Piece<'_>>
     }
 }
 
-/// The text after a first character that does not end the line.
+/// Returns the text after a first character that does not end the line.
 pub fn after_line_character(text: &str) -> Option<&str>
     ensures value { MatchOption result (after_line (chars text.now) ≡ chars text.now) (λ after.
         IsInLine (chars text.now) (chars after.now)) }
@@ -107,7 +107,7 @@ pub fn after_line_character(text: &str) -> Option<&str>
     if is_line_break(c) { None } else { Some(after) }
 }
 
-/// The text from the end of the line on.
+/// Returns the text from the end of the line on.
 pub fn after_line(text: &str) -> &str
     ensures rest { chars result.now ≡ after_line (chars text.now) }
     ensures within { length result.now ≤ length text.now }
@@ -119,7 +119,7 @@ pub fn after_line(text: &str) -> &str
     rest
 }
 
-/// The step at the front of a text in a block comment.
+/// Returns the step at the front of a text in a block comment.
 #[inline(always)]
 pub fn next_step(text: &str) -> Step<'_>
     ensures value { IsStep (chars text.now) result }
@@ -135,7 +135,7 @@ pub fn next_step(text: &str) -> Step<'_>
     }
 }
 
-/// The text after the end of a block comment that is open, unless it is not closed.
+/// Returns the text after the end of a block comment that is open, unless it is not closed.
 pub fn after_block(text: &str) -> Option<&str>
     ensures value { option_map (λ rest. chars rest.now) result ≡ after_block 0 (chars text.now) }
     ensures shorter { IfSome result (λ rest. length rest.now < length text.now) }

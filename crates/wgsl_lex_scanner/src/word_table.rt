@@ -201,7 +201,7 @@ static MOVES: [u8; 64] = [
     6, 37, 2, 171, 29, 0,
 ];
 
-// For each sum, where the only word that has it stands among the words; 0 where none has it.
+// For each sum, where the only word that has it is among the words; 0 where none has it.
 static PLACES: [u8; 256] = [
     132, 75, 159, 71, 23, 3, 135, 0, 103, 168, 131, 87, 36, 11, 151, 162, 116, 169, 112, 14, 105,
     172, 91, 49, 149, 89, 100, 40, 140, 57, 152, 160, 141, 1, 106, 120, 133, 96, 45, 73, 0, 0, 166,

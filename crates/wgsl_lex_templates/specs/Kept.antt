@@ -1,4 +1,4 @@
--- What pieces have, where one may stand for an earlier stretch of them.
+-- What pieces have, where one may be an earlier stretch of them.
 use Rattle.std.specs.Prelude.{◌≡◌, ℕ, suc, Bool, true, ◌&&◌, nat_le, List, [], ◌∷◌, ◌++◌, take, drop}
 use Rattle.std.specs.List.{concat}
 use Rattle.wgsl_lex_token.specs.View.{class_of_kind}
@@ -23,7 +23,7 @@ values_after before (piece ∷ pieces) = value before piece ∷ values_after (be
 abbrev pub held : List Piece → ℕ → ℕ → List ℕ
 held pieces start end = values_between (values_after [] pieces) start end
 
--- a piece at a place stands for none from there on
+-- a piece at a place is not a stretch of pieces from there on
 abbrev pub is_earlier : ℕ → Piece → Bool
 is_earlier place (Token kind) = true
 is_earlier place (Stretch start end) = nat_le end place

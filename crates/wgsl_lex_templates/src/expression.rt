@@ -51,6 +51,7 @@ const RELATIONAL_OPERATORS: &[TokenKind] = &[
     TokenKind::SymNotEqual,
 ];
 
+/// Returns the kinds that are left after an expression at the front of these.
 #[cycle(expression)]
 pub fn expression(kinds: &[TokenKind]) -> Option<&[TokenKind]>
     ensures value { LeavesKinds result (advances (of expression) (classes kinds.now)) }

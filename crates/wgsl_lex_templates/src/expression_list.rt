@@ -10,7 +10,7 @@ use crate::expression::expression;
 use crate::next::take;
 use wgsl_lex_token::kind::TokenKind;
 
-/// Whether tokens of these kinds are list(Expression): one expression at least, with commas
+/// Returns whether tokens of these kinds are list(Expression): one expression at least, with commas
 /// between, and perhaps one after the last. A reserved word or a comment is of no expression. Each
 /// kind is read once, and no memory is taken.
 pub fn is_expression_list(kinds: &[TokenKind]) -> bool

@@ -6,7 +6,7 @@ ghost use Rattle.wgsl_lex_templates.specs.Spans.{end_from, is_before_all, are_ba
 use std::alloc::{AllocError, Global};
 use wgsl_span::Span;
 
-/// Where template lists start and end, the one furthest left last.
+/// The spans of template lists, the one furthest left last.
 #[derive(Debug, PartialEq, Drop)]
 pub struct Lists {
     spans: Vec<Span>,

@@ -15,7 +15,7 @@ fn is_among(kind: TokenKind, kinds: &[TokenKind]) -> bool
     kinds.contains(&kind)
 }
 
-/// What is left after the next token, which has to be of one of some kinds.
+/// Returns what is left after the next token, which has to be of one of some kinds.
 pub fn take_any<'k>(kinds: &'k [TokenKind], among: &[TokenKind]) -> Option<&'k [TokenKind]>
     ensures value { LeavesKinds result (take_any (classes among.now) (classes kinds.now)) }
     ensures shorter { IfSome result (λ left.
@@ -29,7 +29,7 @@ pub fn take_any<'k>(kinds: &'k [TokenKind], among: &[TokenKind]) -> Option<&'k [
     }
 }
 
-/// What is left after the next token, which has to be of a kind.
+/// Returns what is left after the next token, which has to be of a kind.
 pub fn take(kinds: &[TokenKind], kind: TokenKind) -> Option<&[TokenKind]>
     ensures value { LeavesKinds result (take (class_of_kind kind) (classes kinds.now)) }
     ensures shorter { IfSome result (λ left.

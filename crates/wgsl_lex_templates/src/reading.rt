@@ -91,7 +91,7 @@ fn list_after<'s>(
     None
 }
 
-/// Puts the kinds of a list of one name after the others: they stand for those of any other list.
+/// Puts the kinds of a list of one name after the others: they replace those of any other list.
 fn push_list(kept: &mut ReadKinds) -> Result<(), AllocError>
     ensures { IfOk result (λ _. kept.new.pieces.items ≡ ((kept.old.pieces.items
         ++ Token TemplateArgsStart ∷ []) ++ Token Ident ∷ []) ++ Token TemplateArgsEnd ∷ []) }

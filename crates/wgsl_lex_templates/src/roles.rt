@@ -19,7 +19,7 @@ enum TemplateRole {
     Greater,
     /// `&&` or `||`.
     ShortCircuit,
-    /// Stands in no expression.
+    /// Is in no expression.
     Stranger,
     Other,
 }
@@ -68,7 +68,7 @@ pub(crate) enum Turn {
     Stops,
     /// Shows that there is no list, and none around it.
     Refutes,
-    /// Stands inside; a number of brackets are open after it.
+    /// Is inside; a number of brackets are open after it.
     Takes(usize),
 }
 
@@ -90,13 +90,14 @@ pub(crate) fn turn_of(depth: usize, kind: TokenKind) -> Turn
     }
 }
 
-/// Whether a template list may follow: after an identifier or a keyword.
+/// Returns whether a template list may follow: after an identifier or a keyword.
 pub fn is_word(kind: TokenKind) -> bool
     ensures { result ≡ is_word (class_of_kind kind) }
 {
     kind as u8 == TokenKind::Ident as u8 || kind.is_keyword()
 }
 
+/// Returns whether a kind is that of `<`.
 pub fn is_less_than(kind: TokenKind) -> bool
     ensures { result ≡ (class_of_kind kind == SymLessThan) }
 {

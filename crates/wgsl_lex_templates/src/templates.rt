@@ -22,6 +22,7 @@ pub struct Templates {
 }
 
 impl Templates {
+    /// Returns a copy, unless allocation fails.
     pub fn clone(&self, alloc: Global) -> Result<Self, AllocError>
         ensures lists { IfOk result (λ copy. copy.lists.spans.items ≡ self.now.lists.spans.items) }
         ensures attempts { IfOk result (λ copy. copy.attempts ≡ self.now.attempts) }
@@ -35,21 +36,21 @@ impl Templates {
         })
     }
 
-    /// Where the text begins that is after the template list whose `<` is at the place.
+    /// Returns where the text begins that is after the template list whose `<` is at the place.
     pub fn end_of(&self, place: usize) -> Option<usize>
         ensures { result ≡ end_from self.now.lists.spans.items place }
     {
         self.lists.end_of(place)
     }
 
-    /// At how many `<` characters a list was looked for.
+    /// Returns at how many `<` characters a list was looked for.
     pub fn attempts(&self) -> usize
         ensures { result ≡ self.now.attempts }
     {
         self.attempts
     }
 
-    /// How many tokens the scanner took for these attempts.
+    /// Returns how many tokens the scanner took for these attempts.
     pub fn reads(&self) -> u128
         ensures { result ≡ self.now.reads }
     {
@@ -69,8 +70,9 @@ pub fn discover(alloc: Global, source: &str) -> Result<Templates, AllocError>
     discover_within(alloc, source, usize::MAX)
 }
 
-/// `discover` on a stack that grows with a depth: where after a `<` more than a number of brackets
-/// are open at one place of what has to be read, it returns the error.
+/// Finds the template lists as `discover` does, on a stack that grows with a depth: where after a
+/// `<` more than a number of brackets are open at one place of what has to be read, it returns the
+/// error.
 pub fn discover_within(alloc: Global, source: &str, depth: usize) -> Result<Templates, AllocError>
     ensures lists { IfOk result (λ found.
         AreLists (width (chars source.now)) found.lists.spans.items (chars source.now)) }

@@ -2,7 +2,7 @@
 
 ghost use Rattle.std.specs.Prelude.{◌≡◌, ◌<◌, ◌≤◌, chars, drop, length};
 
-/// The text after its first character.
+/// Returns the text after its first character.
 pub fn after_first(text: &str) -> &str
     ensures value { chars result.now ≡ drop 1 (chars text.now) }
     ensures within { length result.now ≤ length text.now }

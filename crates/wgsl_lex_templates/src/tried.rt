@@ -34,7 +34,7 @@ impl Tried {
     /// Adds what was found of a `<` before all others.
     /// The pieces from a place on are of what its attempt read. Where it read few tokens, they and
     /// the finding are forgotten, since they are read again as fast; where no list is around the
-    /// `<`, none stands for them.
+    /// `<`, no later piece is a stretch of them.
     pub(crate) fn add(
         &mut self,
         kept: &mut ReadKinds,

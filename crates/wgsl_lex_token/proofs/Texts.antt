@@ -6,7 +6,7 @@ use Rattle.wgsl_lex_token.specs.declared.token_table.Token.TheVariants.{Ident, R
 use Rattle.wgsl_lex_token.specs.Groups.{word_of_class}
 use Rattle.wgsl_lex_token.specs.View.{kind_view, view_of_class}
 
--- a token that is none of those that hold something is the token of its class, and is named by the
+-- a token that is not one of those that hold something is the token of its class, and is named by the
 -- words of it
 pub plain : (t : Token) → ((x : String Global) → t ≡ Ident x → ⊥)
     → ((x : String Global) → t ≡ ReservedWord x → ⊥) → ((x : ℤ) → t ≡ AbstractInt x → ⊥)

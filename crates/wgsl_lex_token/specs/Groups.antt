@@ -1,4 +1,4 @@
--- Which classes are symbols, numbers and comments, and the words that stand for a class.
+-- Which classes are symbols, numbers and comments, and the words of a class.
 use Rattle.std.specs.Prelude.{ℕ, Bool, ◌&&◌, ◌||◌, ◌==◌, nat_le, List, ◌++◌}
 use Rattle.wgsl_model.specs.Tokens.ClassTable.{SymShiftLeftAssign, AbstractInt, F16, LineComment, BlockComment, symbols, keywords}
 use Rattle.wgsl_model.specs.Tokens.Texts.{word_in, special_texts}

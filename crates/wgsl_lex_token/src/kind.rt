@@ -7,7 +7,7 @@ ghost use Rattle.wgsl_lex_token.specs.View.{class_of_kind};
 pub use crate::kind_table::TokenKind;
 
 impl TokenKind {
-    /// Whether it is a keyword.
+    /// Returns whether it is a keyword.
     pub fn is_keyword(self) -> bool
         ensures { result ≡ is_keyword (class_of_kind self) }
     {

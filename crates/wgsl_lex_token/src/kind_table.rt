@@ -4,7 +4,7 @@ ghost use Rattle.std.specs.Prelude.{◌≡◌};
 ghost use Rattle.wgsl_lex_token.specs.Groups.{word_of_class};
 ghost use Rattle.wgsl_lex_token.specs.View.{class_of_kind};
 
-/// Which token it is, without what it holds: a [`crate::token::Token`] without its fields.
+/// The kinds of tokens: each is a [`crate::token::Token`] without what it holds.
 #[derive(Clone, Copy, Debug, PartialEq, Eq)]
 pub enum TokenKind {
     SymAnd,
@@ -126,7 +126,7 @@ impl TokenKind {
         TokenKind::ReservedWord,
     ];
 
-    /// The text of a kind that holds nothing, and the empty text for the others.
+    /// Returns the text of a token of this kind that holds nothing, and the empty text for others.
     pub fn text(self) -> &'static str
         ensures { result.now ≡ word_of_class (class_of_kind self) }
     {

@@ -12,28 +12,28 @@ use std::alloc::{AllocError, Global};
 use std::fmt;
 
 impl Token {
-    /// Whether it is a comment.
+    /// Returns whether it is a comment.
     pub fn is_trivia(&self) -> bool
         ensures { result ≡ is_trivia (kind_view self.now).class }
     {
         matches!(self, Token::LineComment | Token::BlockComment)
     }
 
-    /// Whether it is one of the 46 symbols.
+    /// Returns whether it is one of the 46 symbols.
     pub fn is_symbol(&self) -> bool
         ensures { result ≡ is_symbol (kind_view self.now).class }
     {
         self.kind() as u8 <= TokenKind::SymShiftLeftAssign as u8
     }
 
-    /// Whether it is a keyword.
+    /// Returns whether it is a keyword.
     pub fn is_keyword(&self) -> bool
         ensures { result ≡ is_keyword (kind_view self.now).class }
     {
         self.kind().is_keyword()
     }
 
-    /// Whether it is a number.
+    /// Returns whether it is a number.
     pub fn is_numeric_literal(&self) -> bool
         ensures { result ≡ is_numeric_literal (kind_view self.now).class }
     {
@@ -41,7 +41,7 @@ impl Token {
         TokenKind::AbstractInt as u8 <= kind && kind <= TokenKind::F16 as u8
     }
 
-    /// A copy.
+    /// Returns a copy, unless allocation fails.
     pub fn clone(&self, alloc: Global) -> Result<Token, AllocError>
         ensures { IfOk result (λ copy. kind_view copy ≡ kind_view self.now) }
     {

@@ -96,7 +96,7 @@ pub enum Token {
 }
 
 impl Token {
-    /// The token of a kind, with an empty text or the number 0 where it holds one.
+    /// Returns the token of a kind, with an empty text or the number 0 where it holds one.
     pub fn from_kind(alloc: Global, kind: TokenKind) -> Token
         ensures { kind_view result ≡ view_of_class (class_of_kind kind) }
     {
@@ -188,7 +188,7 @@ impl Token {
         }
     }
 
-    /// Which token it is.
+    /// Returns the kind of the token.
     pub fn kind(&self) -> TokenKind
         ensures { class_of_kind result ≡ (kind_view self.now).class }
     {

@@ -58,7 +58,7 @@ source_ends source ts e h =
     subst (λ p. EndsAfter (width source) source (last_end p ts) e) start
     (ends_after (width source) [] false source ts e (stream (width source) source ts e (omega arith) h))
 
--- what is found there tells how they end
+-- what is found there says how they end
 told : (total : ℕ) (r : Raw) (found : Option Span) (e : Ending) → EndsSo total r e
     → IsInvalidAt total r found → e ≡ ending_with found
 told total none_left found e h k = h ∙ ap ending_with (sym k)

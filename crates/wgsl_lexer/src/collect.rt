@@ -17,7 +17,7 @@ pub struct Collected {
     pub error: Option<(usize, ParseError, usize)>,
 }
 
-/// The tokens up to the first error, which is the last item that is asked for.
+/// Collects the tokens up to the first error, which is the last item that is asked for.
 pub fn collect_tokens<T: TokenIterator>(alloc: Global, tokens: T) -> Result<Collected, AllocError>
     ensures { IfOk result (λ found.
         (it : T.IntoIter) × T.into_iter_gives tokens it × Gave T.IntoIter.next_gives it found) }

@@ -23,7 +23,7 @@ fn invalid_at(total: usize, text: &str) -> Option<Span>
     }
 }
 
-/// The invalid token that ends the tokens of a text, the last of which ends at a place.
+/// Returns the invalid token that ends the tokens of a text, the last of which ends at a place.
 pub fn invalid_after(source: &str, place: usize) -> Option<Span>
     ensures { (ts : List Token) (e : Ending) →
         IsTokenList (chars source.now) ts e → place ≡ last_end 0 ts → e ≡ ending_with result }

@@ -13,7 +13,7 @@ pub(crate) fn enter(ends: &mut Vec<usize>, end: usize)
     let _ = ends.push(end);
 }
 
-/// Leaves the innermost list if it ends at the place, and tells whether it does.
+/// Leaves the innermost list if it ends at the place, and returns whether it does.
 pub(crate) fn leave(ends: &mut Vec<usize>, place: usize) -> bool
     ensures value { LeavesEnds place (reverse ends.old.items) result (reverse ends.new.items) }
     ensures len { vec_len ends.new ≤ vec_len ends.old }

@@ -7,8 +7,8 @@ use wgsl_error::ParseError;
 use wgsl_lex_token::placed::PlacedToken;
 use wgsl_span::Span;
 
-/// Gives the tokens of a text, and then the fault that ends them if there is one. After a fault it
-/// gives nothing more.
+/// A lexer over a text: it gives the tokens, and then the fault that ends them if there is one.
+/// After a fault it gives nothing more.
 #[derive(Drop)]
 pub struct Lexer<'s> {
     tokens: TextTokens<'s>,
@@ -21,6 +21,7 @@ impl<'s> Lexer<'s> {
     ghost use Rattle.wgsl_model.specs.Tokens.TokenList.{IsTokenList};
     ghost use Rattle.wgsl_lexer.specs.Left.{IsLeft, HasEnded};
 
+    /// Creates a lexer over a text.
     pub fn new(alloc: Global, source: &'s str) -> Result<Lexer<'s>, AllocError>
         ensures { IfOk result (λ lexer. (ts : List grammar.Token) (e : Ending) →
             IsTokenList (chars source.now) ts e ↔ IsLeft lexer ts e) }
@@ -29,7 +30,7 @@ impl<'s> Lexer<'s> {
         Ok(Lexer { tokens })
     }
 
-    /// A lexer that gives the items that are left.
+    /// Returns a lexer that gives the items that are left.
     pub fn clone(&self, alloc: Global) -> Result<Self, AllocError>
         ensures { IfOk result (λ copy.
             (ts : List grammar.Token) (e : Ending) → IsLeft self.now ts e ↔ IsLeft copy ts e) }

@@ -13,7 +13,7 @@ use std::alloc::{AllocError, Global};
 use wgsl_lex_scanner::scan::{Scanned, place, scan};
 use wgsl_lex_templates::discover;
 
-/// Whether the text, after its trivia, begins with a template list.
+/// Returns whether the text, after its trivia, begins with a template list.
 pub fn recognize_template_list(alloc: Global, source: &str) -> Result<bool, AllocError>
     ensures { IfOk result (λ found. IsTrue found ↔ BeginsWithList (chars source.now)) }
 {
@@ -24,8 +24,8 @@ pub fn recognize_template_list(alloc: Global, source: &str) -> Result<bool, Allo
     Ok(templates.end_of(place(source.len(), from)).is_some())
 }
 
-/// The tokens of a text and the fault that ends them, or where an allocation failed a beginning of
-/// them.
+/// Returns the tokens of a text and the fault that ends them, or where an allocation failed a
+/// beginning of them.
 pub fn lex(alloc: Global, source: &str) -> Result<Collected, AllocError>
     ensures all { IfOk result (λ found. IsTokenList (chars source.now)
         (tokens_view found) (ending_view found.error) ⊎ IsOutOfMemory found.error) }

@@ -61,6 +61,7 @@ impl<'s> TextTokens<'s> {
     ghost use Rattle.wgsl_lexer.specs.Endings.{ending_with};
     ghost use Rattle.wgsl_lexer.specs.TextTokens.{AreAfter, has_left, from_next, IsToken, tokens_left, ending_left, StartWithKind, BeginAt, BeginWithName, IsTaken};
 
+    /// Creates the tokens of a text.
     pub fn new(alloc: Global, source: &'s str) -> Result<TextTokens<'s>, AllocError>
         ensures { IfOk result (λ tokens.
             IsTokenList (chars source.now) (tokens_left tokens) (ending_left tokens)) }
@@ -68,8 +69,9 @@ impl<'s> TextTokens<'s> {
         TextTokens::within(alloc, source, usize::MAX)
     }
 
-    /// `new` on a stack that grows with a depth: where after a `<` more than a number of brackets
-    /// are open at one place of what has to be read, it returns the error.
+    /// Creates the tokens as `new` does, on a stack that grows with a depth: where after a `<` more
+    /// than a number of brackets are open at one place of what has to be read, it returns the
+    /// error.
     pub fn within(
         alloc: Global,
         source: &'s str,
@@ -103,7 +105,7 @@ impl<'s> TextTokens<'s> {
         })
     }
 
-    /// The same tokens once more.
+    /// Returns the same tokens once more.
     pub fn clone(&self, alloc: Global) -> Result<TextTokens<'s>, AllocError>
         ensures left { IfOk result (λ copy. tokens_left copy ≡ tokens_left self.now) }
         ensures ending { IfOk result (λ copy. ending_left copy ≡ ending_left self.now) }
@@ -123,7 +125,7 @@ impl<'s> TextTokens<'s> {
         })
     }
 
-    /// Which token is next, if one does.
+    /// Returns the kind of the next token, if there is one.
     pub fn kind(&self) -> Option<TokenKind>
         ensures { MatchOption result
             (tokens_left self.now ≡ []) (StartWithKind (tokens_left self.now)) }
@@ -134,7 +136,7 @@ impl<'s> TextTokens<'s> {
         }
     }
 
-    /// Where the next token is, if there is one.
+    /// Returns where the next token is, if there is one.
     pub fn span(&self) -> Option<Span>
         ensures { MatchOption result (tokens_left self.now ≡ []) (BeginAt (tokens_left self.now)) }
     {
@@ -144,7 +146,7 @@ impl<'s> TextTokens<'s> {
         }
     }
 
-    /// The name that is next, if one does.
+    /// Returns the name that is next, if one is.
     pub fn name(&self) -> Option<&'s str>
         ensures { IfSome result (λ name. BeginWithName (tokens_left self.now) name.now) }
     {
@@ -168,7 +170,8 @@ impl<'s> TextTokens<'s> {
         Ok(Some(PlacedToken { token, span }))
     }
 
-    /// The text that is no token and ends the tokens, if no token is left and there is such text.
+    /// Returns the span of the text that is not a token and ends the tokens, if no token is left
+    /// and there is such text.
     pub fn invalid(&self) -> Option<Span>
         ensures { tokens_left self.now ≡ [] → ending_left self.now ≡ ending_with result }
     {

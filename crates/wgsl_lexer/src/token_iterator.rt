@@ -8,10 +8,11 @@ use crate::lexer::Lexer;
 use wgsl_error::ParseError;
 use wgsl_lex_token::token::Token;
 
-/// A token, or what is wrong in its place; each with the byte where it starts and the byte where it ends.
+/// A token, or what is wrong in its place; each with the byte where it starts and the byte where it
+/// ends.
 pub type TokenItem = Result<(usize, Token, usize), (usize, ParseError, usize)>;
 
-/// What gives tokens: a finite iterator that may be dropped and always be asked for the next item.
+/// A source of tokens: a finite iterator that may be dropped and always be asked for the next item.
 pub trait TokenIterator: IntoIterator<Item = TokenItem, IntoIter: Drop> {
     ghost is_finite: { (tokens : Self) → IsFiniteIterable Self.into_iter_gives Self.IntoIter.can_next Self.IntoIter.remaining tokens };
 }

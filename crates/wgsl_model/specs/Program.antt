@@ -21,7 +21,7 @@ pub record ProcessOutput : Type 0 where
 abbrev pub complaint : ℕ → List ℕ → ProcessOutput
 complaint status text = record { status = status; output = []; errors = text }
 
--- a fault with its place, as the program tells it
+-- a fault with its place, as the program reports it
 abbrev pub shown_fault : Fault → List ℕ
 shown_fault x = codes "chars " ++ decimal x.span.start ++ codes ".." ++ decimal x.span.end
     ++ codes ": " ++ message x.kind x.texts

@@ -4,11 +4,11 @@ use Rattle.wgsl_model_tidy.specs.Roles.{Role, name, unsuffixed, number, word, el
 use Rattle.wgsl_model_tidy.specs.Open.{Enclosing, no_bracket, one_line, own_lines, item_lines}
 
 pub data Joint : Type 0 where
-  -- a line end
+  -- a line break
   line : Joint
   -- nothing, and a space
   nothing space : Joint
-  -- the same, or the line end that the author put there
+  -- the same, or the line break that the author put there
   nothing_or_line space_or_line : Joint
 
 -- `- -` and `& &` stay apart, since `--` and `&&` are tokens
@@ -41,7 +41,7 @@ abbrev pub closed_up : Role → Role → Bool
 closed_up left right = (is_tight right || tight_after left right)
     || (is_applied left right || (is_template left right || is_continued left right))
 
--- elsewhere a line end of the author's stays around an operator between operands, after `,` and
+-- elsewhere a line break of the author's stays around an operator between operands, after `,` and
 -- after an attribute
 abbrev pub continues_line : Role → Role → Bool
 continues_line left right = (is left binary || is right binary) || (is left comma || is left attribute)

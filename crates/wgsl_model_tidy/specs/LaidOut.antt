@@ -1,5 +1,5 @@
 -- The laid-out text of pieces: each piece as `Shown` has it, and before it nothing, a space, or a
--- line end, an empty line at most, and the blank space of the line's depth.
+-- line break, an empty line at most, and the blank space of the line's depth.
 use Rattle.std.specs.Prelude.{ℕ, zero, suc, Bool, true, false, not, ◌&&◌, ◌||◌, ◌==◌, nat_lt, if◌then◌else◌, List, [], ◌∷◌, ◌++◌, codes}
 use Rattle.grammar.specs.Grammar.{is_among}
 use Rattle.wgsl_model.specs.Tokens.ClassTable.{LineComment, BlockComment, SymBraceLeft, SymBraceRight}
@@ -10,7 +10,7 @@ use Rattle.wgsl_model_tidy.specs.Joints.{Joint, line, nothing, space, nothing_or
 use Rattle.wgsl_model_tidy.specs.Layout.{Layout, level, column_after, line_fits}
 use Rattle.wgsl_model_tidy.specs.Open.{Style, together, as_written, item_by_item, LayoutState, Enclosing, one_line, start, enclosing, between_items, depth_of, comment_depth, role_in, after_token}
 
--- nothing, a space, or a line end, with an empty line or without, and the blank space of a line so
+-- nothing, a space, or a line break, with an empty line or without, and the blank space of a line so
 -- deep
 pub data Gap : Type 0 where
   closed blank : Gap
@@ -28,10 +28,10 @@ pub record Spot : Type 0 where
   pub last : Last
   pub column : ℕ
 
--- ---- which gap is before a piece; n is how many line ends are there, and break what a line
+-- ---- which gap is before a piece; n is how many line breaks are there, and break what a line
 -- end is there
 
--- a line end of the author's stays
+-- a line break of the author's stays
 abbrev pub kept_gap : ℕ → Gap → Gap → Gap
 kept_gap zero break other = other
 kept_gap (suc n) break other = break
@@ -49,7 +49,7 @@ abbrev pub is_token : Last → Bool
 is_token token = true
 is_token last = false
 
--- a line end has to be there
+-- a line break has to be there
 abbrev pub is_line : Joint → Bool
 is_line line = true
 is_line joint = false
@@ -58,7 +58,7 @@ is_line joint = false
 abbrev pub closes_up : Role → Bool
 closes_up right = is_tight right || is right template_end
 
--- between a comment and a token where no line end has to be: a line end of the author's stays
+-- between a comment and a token where no line break has to be: a line break of the author's stays
 abbrev pub loose_joint : Role → Joint
 loose_joint right = if closes_up right then nothing_or_line else space_or_line
 
@@ -82,8 +82,8 @@ token_gap enclosing leading_comment left right n break =
     joint_gap (after_leading (joint enclosing left right) right) n break
 token_gap enclosing last left right n break = joint_gap (after_comment (joint enclosing left right) right) n break
 
--- before a comment after a token: a line end where it belongs to the next token; else nothing
--- before a block comment after an opening bracket, and a space elsewhere, or a line end of the
+-- before a comment after a token: a line break where it belongs to the next token; else nothing
+-- before a block comment after an opening bracket, and a space elsewhere, or a line break of the
 -- author's
 abbrev pub comment_after : ℕ → Role → Bool → ℕ → Gap → Gap
 comment_after class left owned n break =
@@ -103,7 +103,7 @@ abbrev pub is_after_opening : Last → Role → Bool
 is_after_opening token left = opens left
 is_after_opening last left = false
 
--- a line end before a token of the role on the right: an empty line of the author's stays between
+-- a line break before a token of the role on the right: an empty line of the author's stays between
 -- items, but neither after an opening bracket nor before a closing one
 abbrev pub line_end : Bool → Last → Role → Role → ℕ → ℕ → Gap
 line_end items last left right n depth =
@@ -123,7 +123,7 @@ abbrev pub next_role : LayoutState → List Piece → Role
 next_role state [] = beginning
 next_role state (p ∷ ps) = if is_comment p.class then next_role state ps else role_in state p.class (operand_follows ps)
 
--- a token comes after the comments at the front of these pieces, with no line end before any of
+-- a token comes after the comments at the front of these pieces, with no line break before any of
 -- them or before it
 abbrev pub is_followed : List Piece → Bool
 is_followed [] = false
@@ -136,7 +136,7 @@ abbrev pub owned : Spot → Role → List Piece → Bool
 owned spot right ps = is_token spot.last
     && ((is_line (joint (enclosing spot.state.opened) spot.state.last right) && not (closes right)) && is_followed ps)
 
--- the gap before a comment of a class, after a number of line ends; the next token is of the role
+-- the gap before a comment of a class, after a number of line breaks; the next token is of the role
 -- on the right, and owns it or does not
 abbrev pub gap_before_comment : Spot → Role → ℕ → Bool → ℕ → Gap
 gap_before_comment spot right class owned n =
@@ -183,7 +183,7 @@ has_lines (p ∷ ps) = not (closes_one p.class) && has_break 1 (p ∷ ps)
 
 -- ---- long lines
 
--- no bracket, or one that may contain line ends
+-- no bracket, or one that may contain line breaks
 abbrev pub may_break : Enclosing → Bool
 may_break one_line = false
 may_break enclosing = true
@@ -282,7 +282,7 @@ spot_after_first layout spot p ps style =
     let right = next_role spot.state (p ∷ ps) in
     after_piece layout spot (gap_before spot right p ps) right p style
 
--- what is after the last piece: a line end, but not where a comment would go on with it, nor
+-- what is after the last piece: a line break, but not where a comment would go on with it, nor
 -- where there is no piece
 abbrev pub ending : Last → Role → List ℕ
 ending open_comment left = []

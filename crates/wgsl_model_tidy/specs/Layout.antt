@@ -1,7 +1,7 @@
 -- What a user chooses of the layout.
 use Rattle.std.specs.Prelude.{ℕ, Bool, false, ◌+◌, ◌==◌, nat_le, if◌then◌else◌, List, [], ◌∷◌, codes, replicate}
 
--- with what lines end: CR LF if the first line end of the source is CR LF, else LF; always LF;
+-- with what lines end: CR LF if the first line break of the source is CR LF, else LF; always LF;
 -- always CR LF
 pub data Newlines : Type 0 where
   auto lf crlf : Newlines
@@ -14,7 +14,7 @@ pub record Layout : Type 0 where
   pub indent : ℕ
   pub newlines : Newlines
 
--- lines of up to 100 columns, four spaces a level, and the line ends of the source
+-- lines of up to 100 columns, four spaces a level, and the line breaks of the source
 abbrev pub standard : Layout
 standard = record { width = 100; tabs = false; indent = 4; newlines = auto }
 

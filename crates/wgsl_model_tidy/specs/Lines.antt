@@ -61,7 +61,7 @@ HasNoTwoEmptyLines text =
 abbrev pub BeginsWithNoLineBreak : List ℕ → Type 0
 BeginsWithNoLineBreak text = (c : ℕ) (rest : List ℕ) → text ≡ c ∷ rest → is_line_break c ≡ false
 
--- The text is empty, or ends in a block comment that is not closed, or ends with one line end,
+-- The text is empty, or ends in a block comment that is not closed, or ends with one line break,
 -- before which there is no white space.
 pub data EndsWithOneLineEnd (text : List ℕ) : Type 0 where
   no_text : text ≡ [] → EndsWithOneLineEnd text

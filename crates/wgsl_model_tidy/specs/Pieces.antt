@@ -23,7 +23,7 @@ pub record Piece : Type 0 where
 
 -- ---- comments
 
--- a character is a line end; CR and LF are one
+-- a character is a line break; CR and LF are one
 abbrev pub line_ends_at : ℕ → List ℕ → ℕ
 line_ends_at c cs = if c == 13 && first_or_zero cs == 10 then 0 else if is_line_break c then 1 else 0
 
@@ -42,7 +42,7 @@ put_in_line c [] = []
 put_in_line c (p ∷ ps) = if is_whitespace c && is_empty p.text then p ∷ ps else put c (p ∷ ps)
 
 -- The comments in a text of blank space and comments, which begins at such a place, a number of
--- line ends after the last piece; and after them what is after a number of line ends. A line
+-- line breaks after the last piece; and after them what is after a number of line breaks. A line
 -- comment ends before a line break; block comments nest.
 unfoldable pub comments : (ℕ → List Piece) → Place → ℕ → List ℕ → List Piece
 comments following outside n [] = following n
@@ -69,7 +69,7 @@ comments following (second p) n (c ∷ cs) = put c (comments following p n cs)
 abbrev pub between : List ℕ → ℕ → ℕ → List ℕ
 between source from to = chars (take (to - from) (drop from (encode_utf8_all source)))
 
--- a token of a source, after a number of line ends
+-- a token of a source, after a number of line breaks
 abbrev pub piece_of : List ℕ → Token → ℕ → Piece
 piece_of source t n = record { class = t.class; text = between source t.start t.end; line_ends = n }
 

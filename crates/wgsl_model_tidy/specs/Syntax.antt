@@ -15,7 +15,7 @@ use Rattle.wgsl_model_tidy.specs.Formatted.{mark_of, unmarked}
 abbrev pub IsModuleInSyntax : List ℕ → Type 0
 IsModuleInSyntax source = (ts : List Token) × IsTokenList source ts finished × IsSentence written unit ts
 
--- the source is no module by its syntax, and this is the fault that is named
+-- the source is not a module by its syntax, and this is the fault that is named
 abbrev pub IsSyntaxFaultOf : List ℕ → Fault → Type 0
 IsSyntaxFaultOf source x = (ts : List Token) × (ending : Ending) × IsTokenList source ts ending
     × IsSyntaxFault ts ending x
@@ -25,8 +25,8 @@ abbrev pub fault_after : ℕ → Fault → Fault
 fault_after n x =
     record { kind = x.kind; texts = x.texts; span = record { start = n + x.span.start; end = n + x.span.end } }
 
--- after its byte order mark the source is no module by its syntax, and this is the fault that is
--- named, with its place in the source
+-- after its byte order mark the source is not a module by its syntax, and this is the fault that
+-- is named, with its place in the source
 abbrev pub IsFaultAfterMark : List ℕ → Fault → Type 0
 IsFaultAfterMark source x = (y : Fault) × IsSyntaxFaultOf (unmarked source) y
     × (x ≡ fault_after (width (mark_of source)) y)

@@ -7,11 +7,12 @@ ghost use Rattle.wgsl_span.specs.Copies.{OptionCopies, ListCopies};
 use crate::Spanned;
 use std::alloc::{AllocError, Global};
 
-/// A copy that asks for memory.
+/// A value that is copied with an allocator.
 pub trait CloneWith: Sized + Drop {
     // The second is equal to the first field by field, spans included.
     ghost copies: { Self → Self → Type 0 };
 
+    /// Returns a copy, unless allocation fails.
     fn clone_with(&self, alloc: Global) -> Result<Self, AllocError>
         ensures copy { IfOk result (λ copy. copies self.now copy) };
 }
@@ -25,6 +26,7 @@ impl<T: CloneWith> CloneWith for Spanned<T> {
 }
 
 impl<T: CloneWith> Spanned<T> {
+    /// Returns a copy, unless allocation fails.
     pub fn clone(&self, alloc: Global) -> Result<Self, AllocError>
         ensures span { IfOk result (λ copy. spanned_span copy ≡ spanned_span self.now) }
         ensures node { IfOk result (λ copy. T.copies (spanned_node self.now) (spanned_node copy)) }

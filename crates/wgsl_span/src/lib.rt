@@ -27,6 +27,7 @@ pub struct Span {
 }
 
 impl Span {
+    /// Creates a span from the start of a range to its end.
     pub fn new(range: Range<usize>) -> Self
         ensures { result ≡ record { start = range.start; end = range.end } }
     {
@@ -36,13 +37,14 @@ impl Span {
         }
     }
 
+    /// Returns the span as a range.
     pub fn range(&self) -> Range<usize>
         ensures { result ≡ record { start = self.now.start; end = self.now.end } }
     {
         self.start..self.end
     }
 
-    /// The span from this one's start to the other's end.
+    /// Returns the span from this one's start to the other's end.
     pub fn extend(&self, other: Span) -> Self
         ensures { result ≡ record { start = self.now.start; end = other.end } }
     {
@@ -61,7 +63,7 @@ impl From<Range<usize>> for Span {
     }
 }
 
-/// A node and where it is. Two are equal where their nodes are.
+/// A node and where it is. Two are equal if their nodes are.
 #[derive(Drop)]
 #[derive_where(Debug; T)]
 pub struct Spanned<T> {
@@ -70,6 +72,7 @@ pub struct Spanned<T> {
 }
 
 impl<T: Drop> Spanned<T> {
+    /// Creates a node with its span.
     pub fn new(alloc: Global, node: T, span: Span) -> Result<Self, AllocError>
         ensures node { IfOk result (λ made. spanned_node made ≡ node) }
         ensures span { IfOk result (λ made. spanned_span made ≡ span) }
@@ -80,7 +83,7 @@ impl<T: Drop> Spanned<T> {
         })
     }
 
-    /// A node that is nowhere.
+    /// Creates a node whose span starts and ends at 0.
     pub fn with_default_span(alloc: Global, node: T) -> Result<Self, AllocError>
         ensures node { IfOk result (λ made. spanned_node made ≡ node) }
         ensures span { IfOk result (λ made. spanned_span made ≡ record { start = 0; end = 0 }) }
@@ -90,6 +93,7 @@ impl<T: Drop> Spanned<T> {
 }
 
 impl<T> Spanned<T> {
+    /// Creates a node that is already allocated with its span.
     pub fn new_boxed(node: Box<T>, span: Span) -> Self
         ensures node { spanned_node result ≡ node.value }
         ensures span { spanned_span result ≡ span }
@@ -97,18 +101,21 @@ impl<T> Spanned<T> {
         Spanned { node, span }
     }
 
+    /// Returns where the node is.
     pub fn span(&self) -> Span
         ensures { result ≡ spanned_span self.now }
     {
         self.span
     }
 
+    /// Returns a reference to the node.
     pub fn node(&self) -> &T
         ensures { result.now ≡ spanned_node self.now }
     {
         &*self.node
     }
 
+    /// Returns a mutable reference to the node.
     pub fn node_mut(&mut self) -> &mut T
         ensures* writes_back { sem 𝓛 (LendsNode T.row self.entry result) }
         ensures value { result.now ≡ spanned_node self.old }
@@ -116,6 +123,7 @@ impl<T> Spanned<T> {
         &mut *self.node
     }
 
+    /// Returns the node without its span.
     pub fn into_inner(self) -> T
         ensures { result ≡ spanned_node self }
     {

@@ -65,7 +65,7 @@ abbrev pub IsUncheckedAnswer : Dialect → (n : Symbol) → (Value n → Type 0)
 IsUncheckedAnswer L n Holds ts ending (accepted v) = (ending ≡ finished) × Holds v
 IsUncheckedAnswer L n Holds ts ending (denied x) = IsNamedUnchecked L n ts ending x
 
--- the same where a text is recognised alone
+-- the same in the dialect
 abbrev pub small_answer_of : (n : Symbol) → List Token → Ending → Answer (Value n)
 small_answer_of n ts ending = unchecked_answer_of recognized n ts ending
 

@@ -222,7 +222,7 @@ call_or_type (t, Some es) = Expression.function_call (call_of (t, es))
 abbrev pub attributes_before : {A B : Type 0} → (Attributes → A → B) → FactoredRule A → FactoredRule B
 attributes_before make g = symbol (further attribute_list) then g gives λ (a, x). make a x
 
--- attributes; where a text is recognised alone, none
+-- attributes; in the dialect, none
 abbrev pub leading_list : Dialect → FactoredRule Attributes
 leading_list parsed = symbol (further attribute_list)
 leading_list recognized = empty []
@@ -231,7 +231,7 @@ leading_list recognized = empty []
 abbrev pub leading_before : {A B : Type 0} → Dialect → (Attributes → A → B) → FactoredRule A → FactoredRule B
 leading_before L make g = leading_list L then g gives λ (a, x). make a x
 
--- attributes, and one of two after them; the second has none where a text is recognised alone
+-- attributes, and one of two after them; the second has none in the dialect
 abbrev pub either_after : {A B : Type 0} → Dialect → (Attributes → A → B) → FactoredRule A
     → FactoredRule A → FactoredRule B
 either_after parsed make g h = attributes_before make (g or h)
@@ -246,7 +246,7 @@ abbrev pub taken_by : {B : Type 0} → Attributes → (Attributes → B) → B
 taken_by a f = f a
 
 -- attributes, and after them another part, or an item of one of two kinds and the rest; the other
--- part and the second kind have none where a text is recognised alone
+-- part and the second kind have none in the dialect
 abbrev pub items_after : {A R B : Type 0} → Dialect → ((A × Span) × R → Attributes → B)
     → FactoredRule A → FactoredRule A → FactoredRule R → FactoredRule (Attributes → B) → FactoredRule B
 items_after parsed put g h rest other = attributes_before taken_by (other or with_place (g or h) then rest gives put)
@@ -547,6 +547,6 @@ factored L (of n) = lifted (rules L n)
 abbrev pub body : (n : FactoredSymbol) → FactoredRule (FactoredValue n)
 body = factored parsed
 
--- those of a text that is recognised alone
+-- those of the dialect
 abbrev pub small_body : (n : FactoredSymbol) → FactoredRule (FactoredValue n)
 small_body = factored recognized

@@ -433,7 +433,7 @@ ranks (further declaration_list) = 4
 ranks (further front) = 3
 ranks n = 0
 
--- how many symbols stand within one another at least
+-- how many symbols are within one another at least
 abbrev pub heights : FactoredSymbol → ℕ
 heights (of type_specifier) = 1
 heights (of template_list) = 6

@@ -1,4 +1,4 @@
--- Tokens that may stand in place of others.
+-- Tokens that may replace others.
 use Rattle.std.specs.Prelude.{◌↔◌, List, ◌++◌}
 use Rattle.grammar.specs.Tokens.{Token}
 use Rattle.wgsl_theory_grammar.proofs.Tokens.Decided.{IsList}

@@ -29,14 +29,14 @@ put_in_line_none c (p ∷ ps) h = either_none (is_whitespace c && is_empty p.tex
 one_more : (n k : ℕ) → suc n + k ≡ suc (n + k)
 one_more n k = omega arith
 
--- a piece after a line end does not follow
+-- a piece after a line break does not follow
 no_zero : (n : ℕ) → (suc n == 0) ≡ false
 no_zero n = grind arith
 
 pub after_end : (n : ℕ) (b : Bool) → (suc n == 0 && b) ≡ false
 after_end n b = rw (no_zero n) refl
 
--- after a line end none does
+-- after a line break none does
 pub none_after : (following : ℕ → List Piece) → ((m : ℕ) → is_followed (following (suc m)) ≡ false)
     → (p : Place) (n : ℕ) (text : List ℕ) → is_followed (comments following p (suc n) text) ≡ false
 unfolding comments
@@ -80,12 +80,12 @@ none_after following h (second (in_block depth)) n (c ∷ cs) = put_none c
 none_after following h (second (second p)) n (c ∷ cs) = put_none c
     (comments following (second p) (suc n) cs) (none_after following h (second p) n cs)
 
--- one follows a comment without a line end before it, where one follows after the comment
+-- one follows a comment without a line break before it, where one follows after the comment
 pub over_comment : (class : ℕ) (text : List ℕ) (ps : List Piece) → is_comment class ≡ true
     → is_followed (piece class text 0 ∷ ps) ≡ is_followed ps
 over_comment class text ps h = rw h refl
 
--- none does after some line ends, and no line end changes nothing
+-- none does after some line breaks, and no line break changes nothing
 pub ended : (following : ℕ → List Piece) → ((m : ℕ) → is_followed (following (suc m)) ≡ false)
     → (k : ℕ) (text : List ℕ) → 0 < k → is_followed (comments following outside (0 + k) text) ≡ false
 ended following h zero text e = absurd (omega (arith, e))

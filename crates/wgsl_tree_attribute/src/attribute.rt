@@ -42,8 +42,10 @@ pub enum Attribute {
     Custom(CustomAttribute),
 }
 
+/// An attribute and where it is.
 pub type AttributeNode = Spanned<Attribute>;
 
+/// The attributes of a node, in the order of the text.
 pub type Attributes = Vec<AttributeNode>;
 
 impl fmt::Display for Attribute {

@@ -15,6 +15,7 @@ use std::alloc::{AllocError, Global};
 use wgsl_span::CloneWith;
 
 impl Attribute {
+    /// Returns a copy, unless allocation fails.
     pub fn clone(&self, alloc: Global) -> Result<Self, AllocError>
         ensures { IfOk result (λ copy. attribute_view copy ≡ attribute_view self.now) }
     {
@@ -58,6 +59,7 @@ impl CloneWith for Attribute {
 }
 
 impl DiagnosticAttribute {
+    /// Returns a copy, unless allocation fails.
     pub fn clone(&self, alloc: Global) -> Result<Self, AllocError>
         ensures { IfOk result (λ copy. diagnostic_view copy ≡ diagnostic_view self.now) }
     {
@@ -77,6 +79,7 @@ impl CloneWith for DiagnosticAttribute {
 }
 
 impl InterpolateAttribute {
+    /// Returns a copy, unless allocation fails.
     pub fn clone(&self, alloc: Global) -> Result<Self, AllocError>
         ensures { IfOk result (λ copy. interpolate_view copy ≡ interpolate_view self.now) }
     {
@@ -96,6 +99,7 @@ impl CloneWith for InterpolateAttribute {
 }
 
 impl WorkgroupSizeAttribute {
+    /// Returns a copy, unless allocation fails.
     pub fn clone(&self, alloc: Global) -> Result<Self, AllocError>
         ensures { IfOk result (λ copy. workgroup_size_view copy ≡ workgroup_size_view self.now) }
     {
@@ -116,6 +120,7 @@ impl CloneWith for WorkgroupSizeAttribute {
 }
 
 impl TypeConstraint {
+    /// Returns a copy, unless allocation fails.
     pub fn clone(&self, alloc: Global) -> Result<Self, AllocError>
         ensures { IfOk result (λ copy. type_constraint_view copy ≡ type_constraint_view self.now) }
     {
@@ -135,6 +140,7 @@ impl CloneWith for TypeConstraint {
 }
 
 impl CustomAttribute {
+    /// Returns a copy, unless allocation fails.
     pub fn clone(&self, alloc: Global) -> Result<Self, AllocError>
         ensures { IfOk result (λ copy. custom_view copy ≡ custom_view self.now) }
     {

@@ -8,7 +8,7 @@ use std::fmt;
 use std::fmt::Write;
 use wgsl_tree_words::DiagnosticSeverity;
 
-/// A severity and the name of a rule.
+/// The arguments of a `@diagnostic` attribute: a severity and the name of a rule.
 #[derive(PartialEq, Debug, Drop)]
 pub struct DiagnosticAttribute {
     pub severity: DiagnosticSeverity,

@@ -8,6 +8,7 @@ use std::fmt;
 use std::fmt::Write;
 use wgsl_tree_words::{InterpolationSampling, InterpolationType};
 
+/// The arguments of an `@interpolate` attribute.
 #[derive(PartialEq, Debug, Drop)]
 pub struct InterpolateAttribute {
     pub ty: InterpolationType,

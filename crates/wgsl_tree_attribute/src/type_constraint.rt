@@ -1,4 +1,4 @@
-//! The types that a name may stand for.
+//! The types that a name may be.
 
 ghost use Rattle.std.specs.Prelude.{◌≡◌, Some};
 ghost use Rattle.wgsl_tree_attribute.specs.View.{type_constraint_view};
@@ -9,7 +9,7 @@ use std::fmt::Write;
 use wgsl_tree_expression::{Ident, TypeExpression};
 use wgsl_writer::write_joined;
 
-/// A name, and the types that it may stand for.
+/// A name, and the types that it may be.
 #[derive(PartialEq, Debug, Drop)]
 pub struct TypeConstraint {
     pub ident: Ident,

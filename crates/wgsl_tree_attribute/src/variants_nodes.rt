@@ -23,138 +23,161 @@ use wgsl_tree_expression::ExpressionNode;
 use wgsl_tree_words::BuiltinValue;
 
 impl Attribute {
+    /// Returns whether this is `Attribute::Align`.
     pub fn is_align(&self) -> bool
         ensures { result ≡ is_align (attribute_view self.now) }
     {
         matches!(self, Attribute::Align(_))
     }
 
+    /// Returns whether this is `Attribute::Binding`.
     pub fn is_binding(&self) -> bool
         ensures { result ≡ is_binding (attribute_view self.now) }
     {
         matches!(self, Attribute::Binding(_))
     }
 
+    /// Returns whether this is `Attribute::BlendSrc`.
     pub fn is_blend_src(&self) -> bool
         ensures { result ≡ is_blend_src (attribute_view self.now) }
     {
         matches!(self, Attribute::BlendSrc(_))
     }
 
+    /// Returns whether this is `Attribute::Group`.
     pub fn is_group(&self) -> bool
         ensures { result ≡ is_group (attribute_view self.now) }
     {
         matches!(self, Attribute::Group(_))
     }
 
+    /// Returns whether this is `Attribute::Id`.
     pub fn is_id(&self) -> bool
         ensures { result ≡ is_id (attribute_view self.now) }
     {
         matches!(self, Attribute::Id(_))
     }
 
+    /// Returns whether this is `Attribute::Location`.
     pub fn is_location(&self) -> bool
         ensures { result ≡ is_location (attribute_view self.now) }
     {
         matches!(self, Attribute::Location(_))
     }
 
+    /// Returns whether this is `Attribute::Size`.
     pub fn is_size(&self) -> bool
         ensures { result ≡ is_size (attribute_view self.now) }
     {
         matches!(self, Attribute::Size(_))
     }
 
+    /// Returns whether this is `Attribute::If`.
     pub fn is_if(&self) -> bool
         ensures { result ≡ is_if (attribute_view self.now) }
     {
         matches!(self, Attribute::If(_))
     }
 
+    /// Returns whether this is `Attribute::Elif`.
     pub fn is_elif(&self) -> bool
         ensures { result ≡ is_elif (attribute_view self.now) }
     {
         matches!(self, Attribute::Elif(_))
     }
 
+    /// Returns whether this is `Attribute::Builtin`.
     pub fn is_builtin(&self) -> bool
         ensures { result ≡ is_builtin (attribute_view self.now) }
     {
         matches!(self, Attribute::Builtin(_))
     }
 
+    /// Returns whether this is `Attribute::Const`.
     pub fn is_const(&self) -> bool
         ensures { result ≡ is_const (attribute_view self.now) }
     {
         matches!(self, Attribute::Const)
     }
 
+    /// Returns whether this is `Attribute::Invariant`.
     pub fn is_invariant(&self) -> bool
         ensures { result ≡ is_invariant (attribute_view self.now) }
     {
         matches!(self, Attribute::Invariant)
     }
 
+    /// Returns whether this is `Attribute::MustUse`.
     pub fn is_must_use(&self) -> bool
         ensures { result ≡ is_must_use (attribute_view self.now) }
     {
         matches!(self, Attribute::MustUse)
     }
 
+    /// Returns whether this is `Attribute::Vertex`.
     pub fn is_vertex(&self) -> bool
         ensures { result ≡ is_vertex (attribute_view self.now) }
     {
         matches!(self, Attribute::Vertex)
     }
 
+    /// Returns whether this is `Attribute::Fragment`.
     pub fn is_fragment(&self) -> bool
         ensures { result ≡ is_fragment (attribute_view self.now) }
     {
         matches!(self, Attribute::Fragment)
     }
 
+    /// Returns whether this is `Attribute::Compute`.
     pub fn is_compute(&self) -> bool
         ensures { result ≡ is_compute (attribute_view self.now) }
     {
         matches!(self, Attribute::Compute)
     }
 
+    /// Returns whether this is `Attribute::Else`.
     pub fn is_else(&self) -> bool
         ensures { result ≡ is_else (attribute_view self.now) }
     {
         matches!(self, Attribute::Else)
     }
 
+    /// Returns whether this is `Attribute::Diagnostic`.
     pub fn is_diagnostic(&self) -> bool
         ensures { result ≡ is_diagnostic (attribute_view self.now) }
     {
         matches!(self, Attribute::Diagnostic(_))
     }
 
+    /// Returns whether this is `Attribute::Interpolate`.
     pub fn is_interpolate(&self) -> bool
         ensures { result ≡ is_interpolate (attribute_view self.now) }
     {
         matches!(self, Attribute::Interpolate(_))
     }
 
+    /// Returns whether this is `Attribute::WorkgroupSize`.
     pub fn is_workgroup_size(&self) -> bool
         ensures { result ≡ is_workgroup_size (attribute_view self.now) }
     {
         matches!(self, Attribute::WorkgroupSize(_))
     }
 
+    /// Returns whether this is `Attribute::TypeConstraint`.
     pub fn is_type_constraint(&self) -> bool
         ensures { result ≡ is_type_constraint (attribute_view self.now) }
     {
         matches!(self, Attribute::TypeConstraint(_))
     }
 
+    /// Returns whether this is `Attribute::Custom`.
     pub fn is_custom(&self) -> bool
         ensures { result ≡ is_custom (attribute_view self.now) }
     {
         matches!(self, Attribute::Custom(_))
     }
 
+    /// Returns what this `Attribute::Align` holds.
     pub fn unwrap_align(self) -> ExpressionNode
         requires { IsTrue (is_align (attribute_view self)) }
         ensures { self ≡ attribute.Align result }
@@ -165,6 +188,7 @@ impl Attribute {
         inner
     }
 
+    /// Returns what this `Attribute::Binding` holds.
     pub fn unwrap_binding(self) -> ExpressionNode
         requires { IsTrue (is_binding (attribute_view self)) }
         ensures { self ≡ attribute.Binding result }
@@ -175,6 +199,7 @@ impl Attribute {
         inner
     }
 
+    /// Returns what this `Attribute::BlendSrc` holds.
     pub fn unwrap_blend_src(self) -> ExpressionNode
         requires { IsTrue (is_blend_src (attribute_view self)) }
         ensures { self ≡ attribute.BlendSrc result }
@@ -185,6 +210,7 @@ impl Attribute {
         inner
     }
 
+    /// Returns what this `Attribute::Group` holds.
     pub fn unwrap_group(self) -> ExpressionNode
         requires { IsTrue (is_group (attribute_view self)) }
         ensures { self ≡ attribute.Group result }
@@ -195,6 +221,7 @@ impl Attribute {
         inner
     }
 
+    /// Returns what this `Attribute::Id` holds.
     pub fn unwrap_id(self) -> ExpressionNode
         requires { IsTrue (is_id (attribute_view self)) }
         ensures { self ≡ attribute.Id result }
@@ -205,6 +232,7 @@ impl Attribute {
         inner
     }
 
+    /// Returns what this `Attribute::Location` holds.
     pub fn unwrap_location(self) -> ExpressionNode
         requires { IsTrue (is_location (attribute_view self)) }
         ensures { self ≡ attribute.Location result }
@@ -215,6 +243,7 @@ impl Attribute {
         inner
     }
 
+    /// Returns what this `Attribute::Size` holds.
     pub fn unwrap_size(self) -> ExpressionNode
         requires { IsTrue (is_size (attribute_view self)) }
         ensures { self ≡ attribute.Size result }
@@ -225,6 +254,7 @@ impl Attribute {
         inner
     }
 
+    /// Returns what this `Attribute::If` holds.
     pub fn unwrap_if(self) -> ExpressionNode
         requires { IsTrue (is_if (attribute_view self)) }
         ensures { self ≡ attribute.If result }
@@ -235,6 +265,7 @@ impl Attribute {
         inner
     }
 
+    /// Returns what this `Attribute::Elif` holds.
     pub fn unwrap_elif(self) -> ExpressionNode
         requires { IsTrue (is_elif (attribute_view self)) }
         ensures { self ≡ attribute.Elif result }
@@ -245,6 +276,7 @@ impl Attribute {
         inner
     }
 
+    /// Returns what this `Attribute::Builtin` holds.
     pub fn unwrap_builtin(self) -> BuiltinValue
         requires { IsTrue (is_builtin (attribute_view self)) }
         ensures { self ≡ attribute.Builtin result }
@@ -255,6 +287,7 @@ impl Attribute {
         inner
     }
 
+    /// Consumes this `Attribute::Const`, which holds nothing.
     pub fn unwrap_const(self)
         requires { IsTrue (is_const (attribute_view self)) }
         ensures { self ≡ attribute.Const }
@@ -264,6 +297,7 @@ impl Attribute {
         };
     }
 
+    /// Consumes this `Attribute::Invariant`, which holds nothing.
     pub fn unwrap_invariant(self)
         requires { IsTrue (is_invariant (attribute_view self)) }
         ensures { self ≡ attribute.Invariant }
@@ -273,6 +307,7 @@ impl Attribute {
         };
     }
 
+    /// Consumes this `Attribute::MustUse`, which holds nothing.
     pub fn unwrap_must_use(self)
         requires { IsTrue (is_must_use (attribute_view self)) }
         ensures { self ≡ attribute.MustUse }
@@ -282,6 +317,7 @@ impl Attribute {
         };
     }
 
+    /// Consumes this `Attribute::Vertex`, which holds nothing.
     pub fn unwrap_vertex(self)
         requires { IsTrue (is_vertex (attribute_view self)) }
         ensures { self ≡ attribute.Vertex }
@@ -291,6 +327,7 @@ impl Attribute {
         };
     }
 
+    /// Consumes this `Attribute::Fragment`, which holds nothing.
     pub fn unwrap_fragment(self)
         requires { IsTrue (is_fragment (attribute_view self)) }
         ensures { self ≡ attribute.Fragment }
@@ -300,6 +337,7 @@ impl Attribute {
         };
     }
 
+    /// Consumes this `Attribute::Compute`, which holds nothing.
     pub fn unwrap_compute(self)
         requires { IsTrue (is_compute (attribute_view self)) }
         ensures { self ≡ attribute.Compute }
@@ -309,6 +347,7 @@ impl Attribute {
         };
     }
 
+    /// Consumes this `Attribute::Else`, which holds nothing.
     pub fn unwrap_else(self)
         requires { IsTrue (is_else (attribute_view self)) }
         ensures { self ≡ attribute.Else }
@@ -318,6 +357,7 @@ impl Attribute {
         };
     }
 
+    /// Returns what this `Attribute::Diagnostic` holds.
     pub fn unwrap_diagnostic(self) -> DiagnosticAttribute
         requires { IsTrue (is_diagnostic (attribute_view self)) }
         ensures { self ≡ attribute.Diagnostic result }
@@ -328,6 +368,7 @@ impl Attribute {
         inner
     }
 
+    /// Returns what this `Attribute::Interpolate` holds.
     pub fn unwrap_interpolate(self) -> InterpolateAttribute
         requires { IsTrue (is_interpolate (attribute_view self)) }
         ensures { self ≡ attribute.Interpolate result }
@@ -338,6 +379,7 @@ impl Attribute {
         inner
     }
 
+    /// Returns what this `Attribute::WorkgroupSize` holds.
     pub fn unwrap_workgroup_size(self) -> WorkgroupSizeAttribute
         requires { IsTrue (is_workgroup_size (attribute_view self)) }
         ensures { self ≡ attribute.WorkgroupSize result }
@@ -348,6 +390,7 @@ impl Attribute {
         inner
     }
 
+    /// Returns what this `Attribute::TypeConstraint` holds.
     pub fn unwrap_type_constraint(self) -> TypeConstraint
         requires { IsTrue (is_type_constraint (attribute_view self)) }
         ensures { self ≡ attribute.TypeConstraint result }
@@ -358,6 +401,7 @@ impl Attribute {
         inner
     }
 
+    /// Returns what this `Attribute::Custom` holds.
     pub fn unwrap_custom(self) -> CustomAttribute
         requires { IsTrue (is_custom (attribute_view self)) }
         ensures { self ≡ attribute.Custom result }

@@ -10,6 +10,7 @@ use std::fmt;
 use std::fmt::Write;
 use wgsl_tree_expression::ExpressionNode;
 
+/// The arguments of a `@workgroup_size` attribute.
 #[derive(PartialEq, Debug, Drop)]
 pub struct WorkgroupSizeAttribute {
     pub x: ExpressionNode,

@@ -19,7 +19,7 @@ named (n ∷ ns) (m ∷ ms) value = if bytes_eq n m then named ns ms value else 
 named [] (m ∷ ms) value = None
 named (n ∷ ns) [] value = None
 
--- what stands for a name in a table
+-- the value of a name in a table
 abbrev pub chosen : {X : Type 0} → List ℕ → List (List ℕ × (Unit {0} → Option X)) → Option X
 chosen name [] = None
 chosen name (entry ∷ entries) = (if bytes_eq name entry.0 then entry.1 else (λ _. chosen name entries)) tt

@@ -29,7 +29,7 @@ workgroup_size_code n = node_of (
     (codes "z", optional expression_node_code n.z) ∷
     [])
 
--- `@type(ident, variants)`: a name, and the types that it may stand for
+-- `@type(ident, variants)`: a name, and the types that it may be
 abbrev pub type_constraint_code : plain.TypeConstraint → Code
 type_constraint_code n = node_of (
     (codes "ident", text n.ident) ∷

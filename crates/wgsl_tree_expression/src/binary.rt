@@ -19,6 +19,7 @@ use std::fmt::Write;
 use wgsl_span::CloneWith;
 use wgsl_tree_words::BinaryOperator;
 
+/// An operator between two operands, as `left + right`.
 #[cycle(expression)]
 #[derive(Debug)]
 pub struct BinaryExpression {
@@ -28,6 +29,7 @@ pub struct BinaryExpression {
 }
 
 impl BinaryExpression {
+    /// Returns the left operand, the operator and the right operand.
     pub fn into_parts(self) -> (ExpressionNode, BinaryOperator, ExpressionNode)
         ensures left { result.0 ≡ (out-BinaryExpression self).left }
         ensures operator { result.1 ≡ (out-BinaryExpression self).operator }
@@ -41,6 +43,7 @@ impl BinaryExpression {
         (left, operator, right)
     }
 
+    /// Returns a copy, unless allocation fails.
     pub fn clone(&self, alloc: Global) -> Result<Self, AllocError>
         ensures { IfOk result (λ copy.
             binary_expression_view copy ≡ binary_expression_view self.now) }

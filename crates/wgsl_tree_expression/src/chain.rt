@@ -39,7 +39,7 @@ fn left(node: &ExpressionNode) -> Option<&ExpressionNode>
     }
 }
 
-/// What is on the left as many steps down as there are, up to a limit, and their number.
+/// Returns what is on the left as many steps down as there are, up to a limit, and their number.
 #[tactic(auto, using(crate::proofs::Chains::below_more))]
 pub fn descend(top: &ExpressionNode, limit: usize) -> (&ExpressionNode, usize)
     ensures view { expression_node_view result.0.now

@@ -29,6 +29,7 @@ use std::fmt::Write;
 use wgsl_span::{CloneWith, Spanned};
 use wgsl_tree_words::UnaryOperator;
 
+/// An expression.
 #[cycle(expression)]
 #[derive(Debug, Drop)]
 pub enum Expression {
@@ -42,9 +43,11 @@ pub enum Expression {
     TypeOrIdentifier(TypeExpression),
 }
 
+/// An expression and where it is.
 pub type ExpressionNode = Spanned<Expression>;
 
 impl Expression {
+    /// Returns a copy, unless allocation fails.
     pub fn clone(&self, alloc: Global) -> Result<Self, AllocError>
         ensures { IfOk result (λ copy. expression_view copy ≡ expression_view self.now) }
     {

@@ -16,6 +16,7 @@ use std::fmt;
 use std::fmt::Write;
 use wgsl_span::CloneWith;
 
+/// A call of a function or of a value constructor, as `ty(arguments)`.
 #[cycle(expression)]
 #[derive(Debug, Drop)]
 pub struct FunctionCall {
@@ -23,9 +24,11 @@ pub struct FunctionCall {
     pub arguments: Vec<ExpressionNode>,
 }
 
+/// A call as an expression.
 pub type FunctionCallExpression = FunctionCall;
 
 impl FunctionCall {
+    /// Returns a copy, unless allocation fails.
     pub fn clone(&self, alloc: Global) -> Result<Self, AllocError>
         ensures { IfOk result (λ copy. function_call_view copy ≡ function_call_view self.now) }
     {

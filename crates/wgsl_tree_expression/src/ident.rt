@@ -7,31 +7,35 @@ use std::alloc::{AllocError, Global};
 use std::fmt;
 use wgsl_span::CloneWith;
 
-/// A name. Two are equal where they are spelled alike.
+/// A name. Two are equal if they are spelled alike.
 #[derive(PartialEq, Eq, Hash, Debug, Drop)]
 pub struct Ident {
     name: String,
 }
 
 impl Ident {
+    /// Creates a name that is spelled like the text.
     pub fn new(name: String) -> Self
         ensures { ident_name result ≡ string_bytes name }
     {
         Ident { name }
     }
 
+    /// Returns how the name is spelled.
     pub fn name(&self) -> &str
         ensures { result.now ≡ ident_name self.now }
     {
         self.name.as_str()
     }
 
+    /// Replaces the spelling of the name.
     pub fn rename(&mut self, name: String)
         ensures { ident_name self.new ≡ string_bytes name }
     {
         self.name = name;
     }
 
+    /// Returns a copy, unless allocation fails.
     pub fn clone(&self, alloc: Global) -> Result<Self, AllocError>
         ensures { IfOk result (λ copy. ident_name copy ≡ ident_name self.now) }
     {

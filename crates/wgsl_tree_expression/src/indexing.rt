@@ -27,6 +27,7 @@ pub struct IndexingExpression {
 }
 
 impl IndexingExpression {
+    /// Returns the base and the index.
     pub fn into_parts(self) -> (ExpressionNode, ExpressionNode)
         ensures base { result.0 ≡ (out-IndexingExpression self).base }
         ensures index { result.1 ≡ (out-IndexingExpression self).index }
@@ -35,6 +36,7 @@ impl IndexingExpression {
         (base, index)
     }
 
+    /// Returns a copy, unless allocation fails.
     pub fn clone(&self, alloc: Global) -> Result<Self, AllocError>
         ensures { IfOk result (λ copy.
             indexing_expression_view copy ≡ indexing_expression_view self.now) }

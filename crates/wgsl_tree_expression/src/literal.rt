@@ -21,6 +21,7 @@ pub enum LiteralExpression {
 }
 
 impl LiteralExpression {
+    /// Returns a copy, unless allocation fails.
     pub fn clone(&self, alloc: Global) -> Result<Self, AllocError>
         ensures { IfOk result (λ copy. literal_view copy ≡ literal_view self.now) }
     {

@@ -28,6 +28,7 @@ pub struct NamedComponentExpression {
 }
 
 impl NamedComponentExpression {
+    /// Returns the base and the name of the component.
     pub fn into_parts(self) -> (ExpressionNode, Ident)
         ensures base { result.0 ≡ (out-NamedComponentExpression self).base }
         ensures component { result.1 ≡ (out-NamedComponentExpression self).component }
@@ -36,6 +37,7 @@ impl NamedComponentExpression {
         (base, component)
     }
 
+    /// Returns a copy, unless allocation fails.
     pub fn clone(&self, alloc: Global) -> Result<Self, AllocError>
         ensures { IfOk result (λ copy.
             named_component_expression_view copy ≡ named_component_expression_view self.now) }

@@ -15,6 +15,7 @@ use std::fmt;
 use std::fmt::Write;
 use wgsl_span::CloneWith;
 
+/// An expression between parentheses.
 #[cycle(expression)]
 #[derive(Debug, Drop)]
 pub struct ParenthesizedExpression {
@@ -22,6 +23,7 @@ pub struct ParenthesizedExpression {
 }
 
 impl ParenthesizedExpression {
+    /// Returns a copy, unless allocation fails.
     pub fn clone(&self, alloc: Global) -> Result<Self, AllocError>
         ensures { IfOk result (λ copy.
             parenthesized_expression_view copy ≡ parenthesized_expression_view self.now) }

@@ -26,7 +26,7 @@ pub struct TypeExpression {
 }
 
 impl TypeExpression {
-    /// The type of a name without template arguments.
+    /// Creates the type of a name without template arguments.
     pub fn new(ident: Ident) -> Self
         ensures { type_expression_view result ≡ type_expression (ident_name ident) no_template }
     {
@@ -36,6 +36,7 @@ impl TypeExpression {
         }
     }
 
+    /// Returns a copy, unless allocation fails.
     pub fn clone(&self, alloc: Global) -> Result<Self, AllocError>
         ensures { IfOk result (λ copy. type_expression_view copy ≡ type_expression_view self.now) }
     {
@@ -127,8 +128,10 @@ impl fmt::Display for TypeExpression {
     }
 }
 
+/// The arguments of a template list, if there is one.
 pub type TemplateArgs = Option<Vec<TemplateArg>>;
 
+/// An argument of a template list.
 #[cycle(expression)]
 #[derive(Debug, Drop)]
 pub struct TemplateArg {
@@ -136,6 +139,7 @@ pub struct TemplateArg {
 }
 
 impl TemplateArg {
+    /// Returns a copy, unless allocation fails.
     pub fn clone(&self, alloc: Global) -> Result<Self, AllocError>
         ensures { IfOk result (λ copy. template_arg_view copy ≡ template_arg_view self.now) }
     {

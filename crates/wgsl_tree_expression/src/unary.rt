@@ -16,6 +16,7 @@ use std::fmt::Write;
 use wgsl_span::CloneWith;
 use wgsl_tree_words::UnaryOperator;
 
+/// An operator before its operand, as `-operand`.
 #[cycle(expression)]
 #[derive(Debug, Drop)]
 pub struct UnaryExpression {
@@ -24,6 +25,7 @@ pub struct UnaryExpression {
 }
 
 impl UnaryExpression {
+    /// Returns a copy, unless allocation fails.
     pub fn clone(&self, alloc: Global) -> Result<Self, AllocError>
         ensures { IfOk result (λ copy.
             unary_expression_view copy ≡ unary_expression_view self.now) }

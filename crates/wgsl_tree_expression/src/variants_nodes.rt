@@ -24,6 +24,7 @@ use crate::type_expression::TypeExpression;
 use crate::unary::UnaryExpression;
 
 impl Expression {
+    /// Returns whether this is `Expression::Literal`.
     pub fn is_literal(&self) -> bool
         ensures { result ≡ is_literal (expression_view self.now) }
     {
@@ -39,6 +40,7 @@ impl Expression {
         }
     }
 
+    /// Returns whether this is `Expression::Parenthesized`.
     pub fn is_parenthesized(&self) -> bool
         ensures { result ≡ is_parenthesized (expression_view self.now) }
     {
@@ -54,6 +56,7 @@ impl Expression {
         }
     }
 
+    /// Returns whether this is `Expression::NamedComponent`.
     pub fn is_named_component(&self) -> bool
         ensures { result ≡ is_named_component (expression_view self.now) }
     {
@@ -69,6 +72,7 @@ impl Expression {
         }
     }
 
+    /// Returns whether this is `Expression::Indexing`.
     pub fn is_indexing(&self) -> bool
         ensures { result ≡ is_indexing (expression_view self.now) }
     {
@@ -84,6 +88,7 @@ impl Expression {
         }
     }
 
+    /// Returns whether this is `Expression::Unary`.
     pub fn is_unary(&self) -> bool
         ensures { result ≡ is_unary (expression_view self.now) }
     {
@@ -99,6 +104,7 @@ impl Expression {
         }
     }
 
+    /// Returns whether this is `Expression::Binary`.
     pub fn is_binary(&self) -> bool
         ensures { result ≡ is_binary (expression_view self.now) }
     {
@@ -114,6 +120,7 @@ impl Expression {
         }
     }
 
+    /// Returns whether this is `Expression::FunctionCall`.
     pub fn is_function_call(&self) -> bool
         ensures { result ≡ is_function_call (expression_view self.now) }
     {
@@ -129,6 +136,7 @@ impl Expression {
         }
     }
 
+    /// Returns whether this is `Expression::TypeOrIdentifier`.
     pub fn is_type_or_identifier(&self) -> bool
         ensures { result ≡ is_type_or_identifier (expression_view self.now) }
     {
@@ -144,6 +152,7 @@ impl Expression {
         }
     }
 
+    /// Returns what this `Expression::Literal` holds.
     pub fn unwrap_literal(self) -> LiteralExpression
         requires { IsTrue (is_literal (expression_view self)) }
         ensures { self ≡ expression.Literal result }
@@ -160,6 +169,7 @@ impl Expression {
         }
     }
 
+    /// Returns what this `Expression::Parenthesized` holds.
     pub fn unwrap_parenthesized(self) -> ParenthesizedExpression
         requires { IsTrue (is_parenthesized (expression_view self)) }
         ensures { self ≡ expression.Parenthesized result }
@@ -176,6 +186,7 @@ impl Expression {
         }
     }
 
+    /// Returns what this `Expression::NamedComponent` holds.
     pub fn unwrap_named_component(self) -> NamedComponentExpression
         requires { IsTrue (is_named_component (expression_view self)) }
         ensures { self ≡ expression.NamedComponent result }
@@ -192,6 +203,7 @@ impl Expression {
         }
     }
 
+    /// Returns what this `Expression::Indexing` holds.
     pub fn unwrap_indexing(self) -> IndexingExpression
         requires { IsTrue (is_indexing (expression_view self)) }
         ensures { self ≡ expression.Indexing result }
@@ -208,6 +220,7 @@ impl Expression {
         }
     }
 
+    /// Returns what this `Expression::Unary` holds.
     pub fn unwrap_unary(self) -> UnaryExpression
         requires { IsTrue (is_unary (expression_view self)) }
         ensures { self ≡ expression.Unary result }
@@ -224,6 +237,7 @@ impl Expression {
         }
     }
 
+    /// Returns what this `Expression::Binary` holds.
     pub fn unwrap_binary(self) -> BinaryExpression
         requires { IsTrue (is_binary (expression_view self)) }
         ensures { self ≡ expression.Binary result }
@@ -240,6 +254,7 @@ impl Expression {
         }
     }
 
+    /// Returns what this `Expression::FunctionCall` holds.
     pub fn unwrap_function_call(self) -> FunctionCall
         requires { IsTrue (is_function_call (expression_view self)) }
         ensures { self ≡ expression.FunctionCall result }
@@ -256,6 +271,7 @@ impl Expression {
         }
     }
 
+    /// Returns what this `Expression::TypeOrIdentifier` holds.
     pub fn unwrap_type_or_identifier(self) -> TypeExpression
         requires { IsTrue (is_type_or_identifier (expression_view self)) }
         ensures { self ≡ expression.TypeOrIdentifier result }
@@ -338,48 +354,56 @@ impl From<TypeExpression> for Expression {
 }
 
 impl LiteralExpression {
+    /// Returns whether this is `LiteralExpression::Bool`.
     pub fn is_bool(&self) -> bool
         ensures { result ≡ is_bool (literal_view self.now) }
     {
         matches!(self, LiteralExpression::Bool(_))
     }
 
+    /// Returns whether this is `LiteralExpression::AbstractInt`.
     pub fn is_abstract_int(&self) -> bool
         ensures { result ≡ is_abstract_int (literal_view self.now) }
     {
         matches!(self, LiteralExpression::AbstractInt(_))
     }
 
+    /// Returns whether this is `LiteralExpression::I32`.
     pub fn is_i32(&self) -> bool
         ensures { result ≡ is_i32 (literal_view self.now) }
     {
         matches!(self, LiteralExpression::I32(_))
     }
 
+    /// Returns whether this is `LiteralExpression::U32`.
     pub fn is_u32(&self) -> bool
         ensures { result ≡ is_u32 (literal_view self.now) }
     {
         matches!(self, LiteralExpression::U32(_))
     }
 
+    /// Returns whether this is `LiteralExpression::AbstractFloat`.
     pub fn is_abstract_float(&self) -> bool
         ensures { result ≡ is_abstract_float (literal_view self.now) }
     {
         matches!(self, LiteralExpression::AbstractFloat(_))
     }
 
+    /// Returns whether this is `LiteralExpression::F32`.
     pub fn is_f32(&self) -> bool
         ensures { result ≡ is_f32 (literal_view self.now) }
     {
         matches!(self, LiteralExpression::F32(_))
     }
 
+    /// Returns whether this is `LiteralExpression::F16`.
     pub fn is_f16(&self) -> bool
         ensures { result ≡ is_f16 (literal_view self.now) }
     {
         matches!(self, LiteralExpression::F16(_))
     }
 
+    /// Returns what this `LiteralExpression::Bool` holds.
     pub fn unwrap_bool(self) -> bool
         requires { IsTrue (is_bool (literal_view self)) }
         ensures { self ≡ literal_expression.Bool result }
@@ -390,6 +414,7 @@ impl LiteralExpression {
         inner
     }
 
+    /// Returns what this `LiteralExpression::AbstractInt` holds.
     pub fn unwrap_abstract_int(self) -> i64
         requires { IsTrue (is_abstract_int (literal_view self)) }
         ensures { self ≡ literal_expression.AbstractInt result }
@@ -400,6 +425,7 @@ impl LiteralExpression {
         inner
     }
 
+    /// Returns what this `LiteralExpression::I32` holds.
     pub fn unwrap_i32(self) -> i32
         requires { IsTrue (is_i32 (literal_view self)) }
         ensures { self ≡ literal_expression.I32 result }
@@ -410,6 +436,7 @@ impl LiteralExpression {
         inner
     }
 
+    /// Returns what this `LiteralExpression::U32` holds.
     pub fn unwrap_u32(self) -> u32
         requires { IsTrue (is_u32 (literal_view self)) }
         ensures { self ≡ literal_expression.U32 result }
@@ -420,6 +447,7 @@ impl LiteralExpression {
         inner
     }
 
+    /// Returns what this `LiteralExpression::AbstractFloat` holds.
     pub fn unwrap_abstract_float(self) -> String
         requires { IsTrue (is_abstract_float (literal_view self)) }
         ensures { self ≡ literal_expression.AbstractFloat result }
@@ -430,6 +458,7 @@ impl LiteralExpression {
         inner
     }
 
+    /// Returns what this `LiteralExpression::F32` holds.
     pub fn unwrap_f32(self) -> String
         requires { IsTrue (is_f32 (literal_view self)) }
         ensures { self ≡ literal_expression.F32 result }
@@ -440,6 +469,7 @@ impl LiteralExpression {
         inner
     }
 
+    /// Returns what this `LiteralExpression::F16` holds.
     pub fn unwrap_f16(self) -> String
         requires { IsTrue (is_f16 (literal_view self)) }
         ensures { self ≡ literal_expression.F16 result }

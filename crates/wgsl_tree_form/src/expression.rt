@@ -15,6 +15,7 @@ use wgsl_tree_expression::{
     ParenthesizedExpression, TemplateArg, TypeExpression, UnaryExpression,
 };
 
+/// Writes the text form of an expression up to what is on its left side, where it has one.
 #[cycle(expressions)]
 pub fn write_expression_start<W: fmt::Write>(
     node: &Expression,
@@ -113,6 +114,7 @@ fn write_binary_expression<W: fmt::Write>(
     f.write_str(",\"left\":")
 }
 
+/// Writes the text form of a call.
 #[cycle(expressions)]
 pub fn write_function_call<W: fmt::Write>(
     node: &FunctionCall,
@@ -133,6 +135,7 @@ pub fn write_function_call<W: fmt::Write>(
     f.write_str("]}")
 }
 
+/// Writes the text form of a type or an identifier.
 #[cycle(expressions)]
 pub fn write_type_expression<W: fmt::Write>(
     node: &TypeExpression,

@@ -18,6 +18,7 @@ use wgsl_tree_statement::{
     WhileStatement,
 };
 
+/// Writes the text form of a statement, without a span.
 #[cycle(statements)]
 pub fn write_statement<W: fmt::Write>(node: &Statement, f: &mut fmt::Formatter<W>) -> fmt::Result
     ensures { WritesOnOk W.write_str_gives f.old result
@@ -111,6 +112,7 @@ fn write_statement_node<W: fmt::Write>(
     f.write_str("}")
 }
 
+/// Writes the text form of a compound statement, without a span.
 #[cycle(statements)]
 pub fn write_compound_statement<W: fmt::Write>(
     node: &CompoundStatement,

@@ -9,7 +9,7 @@ ghost use Rattle.wgsl_tree_node.specs.Lending.{LendsAttributes};
 
 use wgsl_tree_attribute::{Attribute, AttributeNode};
 
-/// Whether some attribute of the list is equal to this one.
+/// Returns whether some attribute of the list is equal to this one.
 pub fn has_attribute(attributes: &[AttributeNode], attribute: &Attribute) -> bool
     ensures { result
         ≡ list_any (λ node. equal_attributes (spanned_node node) attribute.now) attributes.now }
@@ -17,7 +17,7 @@ pub fn has_attribute(attributes: &[AttributeNode], attribute: &Attribute) -> boo
     attributes.iter().any(|node| *node.node() == *attribute)
 }
 
-/// The attributes of a node that has none: an empty list. The node stays as it is.
+/// Returns the attributes of a node that has none: an empty list. The node stays as it is.
 pub fn no_attributes<Node>(node: &mut Node) -> &mut [AttributeNode]
     ensures* writes_back { sem 𝓛 (LendsAttributes Node.row (λ node _. node) node.entry result) }
     ensures value { result.now ≡ [] }

@@ -15,16 +15,17 @@ use wgsl_span::{Span, retain_nodes};
 use wgsl_tree_attribute::{Attribute, AttributeNode, Attributes};
 use wgsl_tree_expression::Ident;
 
-/// What a node says of its name.
+/// A node that may have a name of its own.
 pub trait NodeName {
     // Its name, if it has one.
     ghost own_name: { Self → Option (List ℕ) };
 
+    /// Returns the name, if the node has one of its own.
     fn own_ident(&self) -> Option<&Ident>
         ensures { option_map (λ (ident : Bor Ident). ident_name ident.now) result ≡ own_name self.now };
 }
 
-/// What a node says of its list of attributes.
+/// A node that may have a list of attributes of its own.
 pub trait NodeAttributes {
     // Its list, if it has one.
     ghost list_of: { Self → Option AttributeList };
@@ -32,10 +33,11 @@ pub trait NodeAttributes {
     // It with another list in place of its own.
     ghost with_list: { Self → AttributeList → Self };
 
+    /// Returns the list, if the node has one of its own.
     fn own_attributes(&self) -> Option<&Attributes>
         ensures { option_map (λ (list : Bor AttributeList). list.now) result ≡ list_of self.now };
 
-    /// The list, to be changed in place.
+    /// Returns the list, to be changed in place, if the node has one of its own.
     fn own_attributes_mut(&mut self) -> Option<&mut Attributes>
         ensures* writes_back { sem 𝓛 (LendsList Self.row with_list self.entry result) }
         ensures value { option_map (λ (list : MutBor AttributeList). list.now) result

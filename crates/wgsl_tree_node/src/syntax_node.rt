@@ -38,22 +38,25 @@ pub trait SyntaxNode {
     // The second is the first, but for its attributes.
     ghost same_else: { Self → Self → Type 0 };
 
+    /// Returns where the node is, if it has a span.
     fn span(&self) -> Option<Span>
         ensures { result ≡ span_of self.now };
 
+    /// Returns a copy of the name, if the node has one.
     fn ident(&self, alloc: Global) -> Result<Option<Ident>, AllocError>
         ensures { IfOk result (λ ident. option_map ident_name ident ≡ name_of self.now) };
 
+    /// Returns the attributes, which are none if the node has no list.
     fn attributes(&self) -> &[AttributeNode]
         ensures { result.now ≡ attributes_of self.now };
 
-    /// The attributes, to be changed in place.
+    /// Returns the attributes, to be changed in place.
     fn attributes_mut(&mut self) -> &mut [AttributeNode]
         ensures* writes_back { sem 𝓛 (LendsAttributes Self.row with_attributes self.entry result) }
         ensures value { result.now ≡ attributes_of self.old }
         ensures change { ChangesAttributesAlone attributes_of same_else with_attributes self.old };
 
-    /// Whether some attribute is equal to this one.
+    /// Returns whether some attribute is equal to this one.
     fn contains_attribute(&self, attribute: &Attribute) -> bool
         ensures { result ≡ list_any (λ node. equal_attributes (spanned_node node) attribute.now) (attributes_of self.now) };
 

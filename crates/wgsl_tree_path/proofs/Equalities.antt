@@ -67,7 +67,7 @@ paths_agree a b =
           (names.1 (ap (λ (p : plain.ModulePath). p.components) same)),
     )
 
--- a test that tells whether two values are seen as one is an equivalence
+-- a test that says whether two values are seen as one is an equivalence
 module _ {A View : Type 0} (test : A → A → Bool) (view : A → View)
     (agree : (a b : A) → (test a b ≡ true) ↔ (view a ≡ view b)) where
   pub equivalence : IsEquivalence test

@@ -6,7 +6,7 @@ ghost use Rattle.wgsl_tree_path.specs.declared.error.ModulePathParseError.TheVar
 use std::alloc::{AllocError, AllocFailed};
 use thiserror::Error;
 
-/// Why a text is no path, or was not read.
+/// The reasons for which a text is not a path, or was not read.
 #[derive(Clone, Copy, PartialEq, Eq, Debug, Error)]
 pub enum ModulePathParseError {
     #[error("module name cannot be empty")]

@@ -19,8 +19,8 @@ impl ModulePath {
         Ok(ModulePath { origin, components })
     }
 
-    /// The path that the suffix means in the module that this path leads to. A package within a
-    /// package is named by both, with `/` between, which no text of a path can say.
+    /// Returns the path that the suffix means in the module that this path leads to. A package
+    /// within a package is named by both, with `/` between, which no text of a path can say.
     pub fn join_path(&self, alloc: Global, suffix: &Self) -> Result<Self, AllocError>
         requires { plain.JoinFits (path_view self.now) (path_view suffix.now) }
         ensures { IfOk result (λ path.
@@ -32,8 +32,8 @@ impl ModulePath {
         })
     }
 
-    /// Whether the levels of the joined path fit: false where both paths are relative and their
-    /// levels together are too many.
+    /// Returns whether the levels of the joined path fit: false where both paths are relative and
+    /// their levels together are too many.
     pub fn join_fits(&self, suffix: &Self) -> bool
         ensures { IsTrue result ↔ plain.JoinFits (path_view self.now) (path_view suffix.now) }
     {

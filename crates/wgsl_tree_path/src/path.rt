@@ -9,7 +9,7 @@ use std::alloc::{AllocError, Global};
 use std::fmt;
 use std::fmt::Write;
 
-/// Where a path begins.
+/// The origin of a path, where it begins.
 #[derive(PartialEq, Eq, Hash, Debug, Drop)]
 pub enum PathOrigin {
     /// At the root of the package: `package`.
@@ -21,14 +21,14 @@ pub enum PathOrigin {
 }
 
 impl PathOrigin {
-    /// Whether the path begins with `package`.
+    /// Returns whether the path begins with `package`.
     pub fn is_absolute(&self) -> bool
         ensures { IsTrue result ↔ (origin_view self.now ≡ plain.absolute) }
     {
         matches!(self, PathOrigin::Absolute)
     }
 
-    /// Whether the path begins with `self` or `super`.
+    /// Returns whether the path begins with `self` or `super`.
     pub fn is_relative(&self) -> bool
         ensures { IsTrue result
             ↔ ((levels : ℕ) × (origin_view self.now ≡ plain.relative levels)) }
@@ -36,7 +36,7 @@ impl PathOrigin {
         matches!(self, PathOrigin::Relative(_))
     }
 
-    /// Whether the path begins with the name of a package.
+    /// Returns whether the path begins with the name of a package.
     pub fn is_package(&self) -> bool
         ensures { IsTrue result
             ↔ ((name : List ℕ) × (origin_view self.now ≡ plain.of_package name)) }
@@ -44,6 +44,7 @@ impl PathOrigin {
         matches!(self, PathOrigin::Package(_))
     }
 
+    /// Returns a copy, unless allocation fails.
     pub fn clone(&self, alloc: Global) -> Result<Self, AllocError>
         ensures { IfOk result (λ copy. origin_view copy ≡ origin_view self.now) }
     {
@@ -63,7 +64,7 @@ pub struct ModulePath {
 }
 
 impl ModulePath {
-    /// Any origin and any components, also ones that no text can say.
+    /// Creates a path of any origin and any components, also ones that no text can say.
     pub fn new(origin: PathOrigin, components: Vec<String>) -> Self
         ensures { path_view result
             ≡ plain_path (origin_view origin) (map string_bytes components.items) }
@@ -71,7 +72,7 @@ impl ModulePath {
         ModulePath { origin, components }
     }
 
-    /// The path `package`.
+    /// Creates the path `package`.
     pub fn new_root(alloc: Global) -> Self
         ensures { path_view result ≡ plain.root_path }
     {
@@ -88,14 +89,14 @@ impl ModulePath {
         Ok(())
     }
 
-    /// The first component, which is after the origin.
+    /// Returns the first component, which is after the origin.
     pub fn first(&self) -> Option<&str>
         ensures { option_copied result ≡ slice_get (path_view self.now).components 0 }
     {
         self.components.first().map(String::as_str)
     }
 
-    /// The last component.
+    /// Returns the last component.
     pub fn last(&self) -> Option<&str>
         ensures { let components = (path_view self.now).components in
             option_copied result ≡ slice_get components (length components - 1) }
@@ -103,20 +104,21 @@ impl ModulePath {
         self.components.last().map(String::as_str)
     }
 
-    /// Whether the path has the origin of the prefix, and its components first.
+    /// Returns whether the path has the origin of the prefix, and its components first.
     pub fn starts_with(&self, prefix: &Self) -> bool
         ensures { IsTrue result ↔ plain.StartsWith (path_view self.now) (path_view prefix.now) }
     {
         self.origin == prefix.origin && self.components.starts_with(&prefix.components)
     }
 
-    /// Whether this is the path `package`.
+    /// Returns whether this is the path `package`.
     pub fn is_root(&self) -> bool
         ensures { IsTrue result ↔ (path_view self.now ≡ plain.root_path) }
     {
         self.origin.is_absolute() && self.components.is_empty()
     }
 
+    /// Returns a copy, unless allocation fails.
     pub fn clone(&self, alloc: Global) -> Result<Self, AllocError>
         ensures { IfOk result (λ copy. path_view copy ≡ path_view self.now) }
     {
@@ -165,7 +167,7 @@ fn write_supers<W: fmt::Write>(levels: usize, f: &mut fmt::Formatter<W>) -> fmt:
     Ok(())
 }
 
-/// A copy of a list of names.
+/// Returns a copy of a list of names, unless allocation fails.
 pub fn clone_names(alloc: Global, names: &[String]) -> Result<Vec<String>, AllocError>
     ensures { IfOk result (λ copy. map string_bytes copy.items ≡ map string_bytes names.now) }
 {

@@ -14,7 +14,7 @@ use Rattle.wgsl_model.specs.Printed.Statements.{terminator_of, unended, print_st
 use Rattle.wgsl_model.proofs.Filled.{IsFilled, right_filled}
 use Rattle.wgsl_writer.specs.LineEnds.{is_one_line}
 
--- no line end ends a statement
+-- no line break ends a statement
 pub end_one_line : (s : Statement) → IsTrue (is_one_line (terminator_of s))
 end_one_line (statement attributes void) = refl
 end_one_line (statement attributes s) = refl

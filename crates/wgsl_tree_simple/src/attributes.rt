@@ -13,6 +13,7 @@ use wgsl_span::CloneWith;
 use wgsl_tree_attribute::{Attributes, AttributesBefore};
 use wgsl_writer::Indented;
 
+/// Returns a copy of a list of attributes, unless allocation fails.
 pub fn clone_attributes(attributes: &Attributes, alloc: Global) -> Result<Attributes, AllocError>
     ensures { IfOk result (λ copy.
         attributes_view copy.items ≡ attributes_view attributes.now.items) }

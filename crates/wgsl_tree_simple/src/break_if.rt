@@ -11,7 +11,7 @@ use std::fmt::Write;
 use wgsl_tree_attribute::Attributes;
 use wgsl_tree_expression::ExpressionNode;
 
-/// `break if expression;`, the last of a `continuing` block.
+/// A `break if` statement, `break if expression;`, the last of a `continuing` block.
 #[derive(PartialEq, Debug, Drop)]
 pub struct BreakIfStatement {
     pub attributes: Attributes,

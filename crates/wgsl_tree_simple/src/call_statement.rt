@@ -15,7 +15,7 @@ use std::fmt::Write;
 use wgsl_tree_attribute::Attributes;
 use wgsl_tree_expression::FunctionCall;
 
-/// A call alone.
+/// A call as a statement.
 #[derive(PartialEq, Debug, Drop)]
 pub struct FunctionCallStatement {
     pub attributes: Attributes,
@@ -23,7 +23,7 @@ pub struct FunctionCallStatement {
 }
 
 impl FunctionCallStatement {
-    /// The call alone.
+    /// Creates the statement of a call, without attributes.
     pub fn from_call(alloc: Global, call: FunctionCall) -> Self
         ensures { call_statement_view result
             ≡ without_attributes (record { call = function_call_view call }) }

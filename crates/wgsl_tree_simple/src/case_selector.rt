@@ -9,7 +9,7 @@ use std::fmt;
 use std::fmt::Write;
 use wgsl_tree_expression::ExpressionNode;
 
-/// What a clause of a `switch` selects.
+/// A selector of a clause of a `switch`.
 #[derive(PartialEq, Debug, Drop)]
 pub enum CaseSelector {
     Default,

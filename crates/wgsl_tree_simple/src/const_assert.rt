@@ -18,17 +18,18 @@ use wgsl_span::Spanned;
 use wgsl_tree_attribute::Attributes;
 use wgsl_tree_expression::{Expression, ExpressionNode};
 
-/// `const_assert expression;`
+/// An assertion, as `const_assert expression;`.
 #[derive(PartialEq, Debug, Drop)]
 pub struct ConstAssert {
     pub attributes: Attributes,
     pub expression: ExpressionNode,
 }
 
+/// An assertion as a statement.
 pub type ConstAssertStatement = ConstAssert;
 
 impl ConstAssert {
-    /// Asserts the expression, which is nowhere.
+    /// Creates the assertion of an expression, whose span starts and ends at 0.
     pub fn new(alloc: Global, expression: Expression) -> Result<Self, AllocError>
         ensures { IfOk result (λ made. assert_view made ≡ without_attributes
             (record { expression = expression_node (expression_view expression) no_span })) }

@@ -20,6 +20,7 @@ use std::alloc::{AllocError, Global};
 use wgsl_span::CloneWith;
 
 impl Declaration {
+    /// Returns a copy, unless allocation fails.
     pub fn clone(&self, alloc: Global) -> Result<Self, AllocError>
         ensures { IfOk result (λ copy. declaration_view copy ≡ declaration_view self.now) }
     {
@@ -42,6 +43,7 @@ impl CloneWith for Declaration {
 }
 
 impl AssignmentStatement {
+    /// Returns a copy, unless allocation fails.
     pub fn clone(&self, alloc: Global) -> Result<Self, AllocError>
         ensures { IfOk result (λ copy. assignment_view copy ≡ assignment_view self.now) }
     {
@@ -63,6 +65,7 @@ impl CloneWith for AssignmentStatement {
 }
 
 impl IncrementStatement {
+    /// Returns a copy, unless allocation fails.
     pub fn clone(&self, alloc: Global) -> Result<Self, AllocError>
         ensures { IfOk result (λ copy. increment_view copy ≡ increment_view self.now) }
     {
@@ -82,6 +85,7 @@ impl CloneWith for IncrementStatement {
 }
 
 impl DecrementStatement {
+    /// Returns a copy, unless allocation fails.
     pub fn clone(&self, alloc: Global) -> Result<Self, AllocError>
         ensures { IfOk result (λ copy. decrement_view copy ≡ decrement_view self.now) }
     {
@@ -101,6 +105,7 @@ impl CloneWith for DecrementStatement {
 }
 
 impl CaseSelector {
+    /// Returns a copy, unless allocation fails.
     pub fn clone(&self, alloc: Global) -> Result<Self, AllocError>
         ensures { IfOk result (λ copy. selector_view copy ≡ selector_view self.now) }
     {
@@ -122,6 +127,7 @@ impl CloneWith for CaseSelector {
 }
 
 impl BreakStatement {
+    /// Returns a copy, unless allocation fails.
     pub fn clone(&self, alloc: Global) -> Result<Self, AllocError>
         ensures { IfOk result (λ copy. break_view copy ≡ break_view self.now) }
     {
@@ -140,6 +146,7 @@ impl CloneWith for BreakStatement {
 }
 
 impl BreakIfStatement {
+    /// Returns a copy, unless allocation fails.
     pub fn clone(&self, alloc: Global) -> Result<Self, AllocError>
         ensures { IfOk result (λ copy. break_if_view copy ≡ break_if_view self.now) }
     {
@@ -159,6 +166,7 @@ impl CloneWith for BreakIfStatement {
 }
 
 impl ContinueStatement {
+    /// Returns a copy, unless allocation fails.
     pub fn clone(&self, alloc: Global) -> Result<Self, AllocError>
         ensures { IfOk result (λ copy. continue_view copy ≡ continue_view self.now) }
     {
@@ -177,6 +185,7 @@ impl CloneWith for ContinueStatement {
 }
 
 impl ReturnStatement {
+    /// Returns a copy, unless allocation fails.
     pub fn clone(&self, alloc: Global) -> Result<Self, AllocError>
         ensures { IfOk result (λ copy. return_view copy ≡ return_view self.now) }
     {
@@ -196,6 +205,7 @@ impl CloneWith for ReturnStatement {
 }
 
 impl DiscardStatement {
+    /// Returns a copy, unless allocation fails.
     pub fn clone(&self, alloc: Global) -> Result<Self, AllocError>
         ensures { IfOk result (λ copy. discard_view copy ≡ discard_view self.now) }
     {
@@ -214,6 +224,7 @@ impl CloneWith for DiscardStatement {
 }
 
 impl FunctionCallStatement {
+    /// Returns a copy, unless allocation fails.
     pub fn clone(&self, alloc: Global) -> Result<Self, AllocError>
         ensures { IfOk result (λ copy. call_statement_view copy ≡ call_statement_view self.now) }
     {
@@ -233,6 +244,7 @@ impl CloneWith for FunctionCallStatement {
 }
 
 impl ConstAssert {
+    /// Returns a copy, unless allocation fails.
     pub fn clone(&self, alloc: Global) -> Result<Self, AllocError>
         ensures { IfOk result (λ copy. assert_view copy ≡ assert_view self.now) }
     {

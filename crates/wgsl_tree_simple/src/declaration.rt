@@ -17,7 +17,7 @@ use wgsl_tree_attribute::Attributes;
 use wgsl_tree_expression::{ExpressionNode, Ident, TypeExpression};
 use wgsl_tree_words::{AccessMode, AddressSpace};
 
-/// Which kind of value is declared; a `var` with its template.
+/// The kinds of declared values; a `var` with its template.
 #[derive(Clone, Copy, PartialEq, Eq, Debug)]
 pub enum DeclarationKind {
     Const,
@@ -27,7 +27,7 @@ pub enum DeclarationKind {
 }
 
 impl DeclarationKind {
-    /// The kind whose word the text is; `var` is one without a template.
+    /// Returns the kind whose word the text is; `var` is one without a template.
     pub fn from_str(text: &str) -> Result<Self, ()>
         ensures { MatchResult result (λ kind. IsKindWord (declaration_kind_view kind) text.now)
             (λ _. (kind : plain.DeclarationKind) → ¬ IsKindWord kind text.now) }
@@ -67,6 +67,7 @@ pub struct Declaration {
     pub initializer: Option<ExpressionNode>,
 }
 
+/// A declaration as a statement.
 pub type DeclarationStatement = Declaration;
 
 impl fmt::Display for Declaration {

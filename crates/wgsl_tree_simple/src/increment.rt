@@ -12,7 +12,7 @@ use std::fmt::Write;
 use wgsl_tree_attribute::Attributes;
 use wgsl_tree_expression::ExpressionNode;
 
-/// `expression++;`
+/// An increment statement, as `expression++;`.
 #[derive(PartialEq, Debug, Drop)]
 pub struct IncrementStatement {
     pub attributes: Attributes,
@@ -37,7 +37,7 @@ impl fmt::Display for Unended<'_, IncrementStatement> {
     }
 }
 
-/// `expression--;`
+/// A decrement statement, as `expression--;`.
 #[derive(PartialEq, Debug, Drop)]
 pub struct DecrementStatement {
     pub attributes: Attributes,

@@ -132,7 +132,7 @@ pub fn write_case<W: fmt::Write>(
 }
 
 /// Writes what is before a text in a block: before the first the four spaces, before each other a
-/// line end.
+/// line break.
 pub fn write_gap<W: fmt::Write>(first: bool, out: &mut Indented<'_, W>) -> fmt::Result
     ensures { WritesInto W.write_str_gives out.old result
         (if first then codes "    " else codes "\n") out.new }

@@ -18,7 +18,7 @@ use wgsl_span::Spanned;
 use wgsl_tree_attribute::Attributes;
 use wgsl_tree_expression::{Expression, ExpressionNode};
 
-/// `return;` or `return expression;`
+/// A `return` statement: `return;` or `return expression;`.
 #[derive(PartialEq, Debug, Drop)]
 pub struct ReturnStatement {
     pub attributes: Attributes,
@@ -26,7 +26,7 @@ pub struct ReturnStatement {
 }
 
 impl ReturnStatement {
-    /// Returns the expression, which is nowhere.
+    /// Creates a statement that returns the expression, whose span starts and ends at 0.
     pub fn from_expression(alloc: Global, expression: Expression) -> Result<Self, AllocError>
         ensures { IfOk result (λ made. return_view made ≡ without_attributes
             (record { expression = Some (expression_node (expression_view expression) no_span) })) }
@@ -35,7 +35,7 @@ impl ReturnStatement {
         Ok(ReturnStatement::from_node(alloc, node))
     }
 
-    /// Returns the expression.
+    /// Creates a statement that returns the expression.
     pub fn from_node(alloc: Global, expression: ExpressionNode) -> Self
         ensures { return_view result
             ≡ without_attributes (record { expression = Some (expression_node_view expression) }) }

@@ -11,6 +11,7 @@ use std::fmt;
 use std::fmt::Write;
 use wgsl_tree_attribute::Attributes;
 
+/// A `break` statement.
 #[derive(PartialEq, Debug, Drop)]
 pub struct BreakStatement {
     pub attributes: Attributes,
@@ -33,6 +34,7 @@ impl fmt::Display for Unended<'_, BreakStatement> {
     }
 }
 
+/// A `continue` statement.
 #[derive(PartialEq, Debug, Drop)]
 pub struct ContinueStatement {
     pub attributes: Attributes,
@@ -55,6 +57,7 @@ impl fmt::Display for Unended<'_, ContinueStatement> {
     }
 }
 
+/// A `discard` statement.
 #[derive(PartialEq, Debug, Drop)]
 pub struct DiscardStatement {
     pub attributes: Attributes,

@@ -12,24 +12,28 @@ use crate::declaration::DeclarationKind;
 use wgsl_tree_expression::ExpressionNode;
 
 impl DeclarationKind {
+    /// Returns whether this is `DeclarationKind::Const`.
     pub fn is_const(&self) -> bool
         ensures { result ≡ is_const (declaration_kind_view self.now) }
     {
         matches!(self, DeclarationKind::Const)
     }
 
+    /// Returns whether this is `DeclarationKind::Override`.
     pub fn is_override(&self) -> bool
         ensures { result ≡ is_override (declaration_kind_view self.now) }
     {
         matches!(self, DeclarationKind::Override)
     }
 
+    /// Returns whether this is `DeclarationKind::Let`.
     pub fn is_let(&self) -> bool
         ensures { result ≡ is_let (declaration_kind_view self.now) }
     {
         matches!(self, DeclarationKind::Let)
     }
 
+    /// Returns whether this is `DeclarationKind::Var`.
     pub fn is_var(&self) -> bool
         ensures { result ≡ is_var (declaration_kind_view self.now) }
     {
@@ -38,18 +42,21 @@ impl DeclarationKind {
 }
 
 impl CaseSelector {
+    /// Returns whether this is `CaseSelector::Default`.
     pub fn is_default(&self) -> bool
         ensures { result ≡ is_default (selector_view self.now) }
     {
         matches!(self, CaseSelector::Default)
     }
 
+    /// Returns whether this is `CaseSelector::Expression`.
     pub fn is_expression(&self) -> bool
         ensures { result ≡ is_expression (selector_view self.now) }
     {
         matches!(self, CaseSelector::Expression(_))
     }
 
+    /// Consumes this `CaseSelector::Default`, which holds nothing.
     pub fn unwrap_default(self)
         requires { IsTrue (is_default (selector_view self)) }
         ensures { self ≡ case_selector.Default }
@@ -59,6 +66,7 @@ impl CaseSelector {
         };
     }
 
+    /// Returns what this `CaseSelector::Expression` holds.
     pub fn unwrap_expression(self) -> ExpressionNode
         requires { IsTrue (is_expression (selector_view self)) }
         ensures { self ≡ case_selector.Expression result }

@@ -13,7 +13,7 @@ use wgsl_tree_attribute::Attributes;
 use wgsl_tree_simple::{write_gap, write_open};
 use wgsl_writer::Indented;
 
-/// Attributes, and statements in braces.
+/// A compound statement: attributes, and statements in braces.
 #[cycle(statement)]
 #[derive(Debug, Drop)]
 pub struct CompoundStatement {
@@ -22,7 +22,7 @@ pub struct CompoundStatement {
 }
 
 impl CompoundStatement {
-    /// The block without attributes and statements.
+    /// Creates the block without attributes and statements.
     pub fn new(alloc: Global) -> Self
         ensures { compound_statement_view result ≡ compound_statement [] no_statements }
     {
@@ -44,6 +44,7 @@ impl fmt::Display for CompoundStatement {
     }
 }
 
+/// Writes a compound statement.
 #[cycle(printing)]
 pub fn write_compound<W: fmt::Write>(
     block: &CompoundStatement,

@@ -11,7 +11,7 @@ use wgsl_tree_attribute::Attributes;
 use wgsl_tree_simple::{BreakIfStatement, write_break_if, write_start};
 use wgsl_writer::Indented;
 
-/// What a loop does after each turn.
+/// A `continuing` statement: what a loop does after each turn.
 #[cycle(statement)]
 #[derive(Debug, Drop)]
 pub struct ContinuingStatement {
@@ -31,6 +31,7 @@ impl fmt::Display for ContinuingStatement {
     }
 }
 
+/// Writes a `continuing` statement.
 #[cycle(printing)]
 pub fn write_continuing<W: fmt::Write>(
     statement: &ContinuingStatement,

@@ -24,6 +24,7 @@ use wgsl_span::{CloneWith, Spanned};
 use wgsl_tree_simple::clone_attributes;
 
 impl Statement {
+    /// Returns a copy, unless allocation fails.
     pub fn clone(&self, alloc: Global) -> Result<Self, AllocError>
         ensures { IfOk result (λ copy. statement_view copy ≡ statement_view self.now) }
     {
@@ -60,6 +61,7 @@ impl CloneWith for Statement {
 }
 
 impl CompoundStatement {
+    /// Returns a copy, unless allocation fails.
     pub fn clone(&self, alloc: Global) -> Result<Self, AllocError>
         ensures { IfOk result (λ copy.
             compound_statement_view copy ≡ compound_statement_view self.now) }
@@ -81,6 +83,7 @@ impl CloneWith for CompoundStatement {
 }
 
 impl IfStatement {
+    /// Returns a copy, unless allocation fails.
     pub fn clone(&self, alloc: Global) -> Result<Self, AllocError>
         ensures { IfOk result (λ copy. if_statement_view copy ≡ if_statement_view self.now) }
     {
@@ -103,6 +106,7 @@ impl CloneWith for IfStatement {
 }
 
 impl IfClause {
+    /// Returns a copy, unless allocation fails.
     pub fn clone(&self, alloc: Global) -> Result<Self, AllocError>
         ensures { IfOk result (λ copy. if_clause_view copy ≡ if_clause_view self.now) }
     {
@@ -123,6 +127,7 @@ impl CloneWith for IfClause {
 }
 
 impl ElseIfClause {
+    /// Returns a copy, unless allocation fails.
     pub fn clone(&self, alloc: Global) -> Result<Self, AllocError>
         ensures { IfOk result (λ copy. else_if_clause_view copy ≡ else_if_clause_view self.now) }
     {
@@ -144,6 +149,7 @@ impl CloneWith for ElseIfClause {
 }
 
 impl ElseClause {
+    /// Returns a copy, unless allocation fails.
     pub fn clone(&self, alloc: Global) -> Result<Self, AllocError>
         ensures { IfOk result (λ copy. else_clause_view copy ≡ else_clause_view self.now) }
     {
@@ -164,6 +170,7 @@ impl CloneWith for ElseClause {
 }
 
 impl SwitchStatement {
+    /// Returns a copy, unless allocation fails.
     pub fn clone(&self, alloc: Global) -> Result<Self, AllocError>
         ensures { IfOk result (λ copy. switch_statement_view copy ≡ switch_statement_view self.now) }
     {
@@ -186,6 +193,7 @@ impl CloneWith for SwitchStatement {
 }
 
 impl SwitchClause {
+    /// Returns a copy, unless allocation fails.
     pub fn clone(&self, alloc: Global) -> Result<Self, AllocError>
         ensures { IfOk result (λ copy. switch_clause_view copy ≡ switch_clause_view self.now) }
     {
@@ -207,6 +215,7 @@ impl CloneWith for SwitchClause {
 }
 
 impl LoopStatement {
+    /// Returns a copy, unless allocation fails.
     pub fn clone(&self, alloc: Global) -> Result<Self, AllocError>
         ensures { IfOk result (λ copy. loop_statement_view copy ≡ loop_statement_view self.now) }
     {
@@ -228,6 +237,7 @@ impl CloneWith for LoopStatement {
 }
 
 impl ForStatement {
+    /// Returns a copy, unless allocation fails.
     pub fn clone(&self, alloc: Global) -> Result<Self, AllocError>
         ensures { IfOk result (λ copy. for_statement_view copy ≡ for_statement_view self.now) }
     {
@@ -251,6 +261,7 @@ impl CloneWith for ForStatement {
 }
 
 impl WhileStatement {
+    /// Returns a copy, unless allocation fails.
     pub fn clone(&self, alloc: Global) -> Result<Self, AllocError>
         ensures { IfOk result (λ copy. while_statement_view copy ≡ while_statement_view self.now) }
     {
@@ -272,6 +283,7 @@ impl CloneWith for WhileStatement {
 }
 
 impl ContinuingStatement {
+    /// Returns a copy, unless allocation fails.
     pub fn clone(&self, alloc: Global) -> Result<Self, AllocError>
         ensures { IfOk result (λ copy.
             continuing_statement_view copy ≡ continuing_statement_view self.now) }

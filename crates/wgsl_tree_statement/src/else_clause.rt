@@ -12,6 +12,7 @@ use wgsl_tree_expression::ExpressionNode;
 use wgsl_tree_simple::{write_attribute_line, write_head, write_start};
 use wgsl_writer::Indented;
 
+/// An `else` clause of an `if` statement.
 #[cycle(statement)]
 #[derive(Debug, Drop)]
 pub struct ElseClause {
@@ -30,6 +31,7 @@ impl fmt::Display for ElseClause {
     }
 }
 
+/// An `else if` clause of an `if` statement.
 #[cycle(statement)]
 #[derive(Debug, Drop)]
 pub struct ElseIfClause {
@@ -49,6 +51,7 @@ impl fmt::Display for ElseIfClause {
     }
 }
 
+/// Writes an `else` clause.
 #[cycle(printing)]
 pub fn write_else_clause<W: fmt::Write>(
     clause: &ElseClause,
@@ -61,6 +64,7 @@ pub fn write_else_clause<W: fmt::Write>(
     write_compound(&clause.body, out)
 }
 
+/// Writes an `else if` clause.
 #[cycle(printing)]
 pub fn write_else_if_clause<W: fmt::Write>(
     clause: &ElseIfClause,

@@ -16,6 +16,7 @@ use wgsl_tree_expression::ExpressionNode;
 use wgsl_tree_simple::{write_condition, write_start};
 use wgsl_writer::Indented;
 
+/// A `for` statement.
 #[cycle(statement)]
 #[derive(Debug, Drop)]
 pub struct ForStatement {
@@ -37,6 +38,7 @@ impl fmt::Display for ForStatement {
     }
 }
 
+/// Writes a `for` statement.
 #[cycle(printing)]
 pub fn write_for<W: fmt::Write>(statement: &ForStatement, out: &mut Indented<'_, W>) -> fmt::Result
     ensures { WritesInto W.write_str_gives out.old result

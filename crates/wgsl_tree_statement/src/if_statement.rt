@@ -14,6 +14,7 @@ use wgsl_tree_expression::ExpressionNode;
 use wgsl_tree_simple::{write_attribute_line, write_head};
 use wgsl_writer::Indented;
 
+/// An `if` statement.
 #[cycle(statement)]
 #[derive(Debug, Drop)]
 pub struct IfStatement {
@@ -36,6 +37,7 @@ impl fmt::Display for IfStatement {
     }
 }
 
+/// The first clause of an `if` statement.
 #[cycle(statement)]
 #[derive(Debug, Drop)]
 pub struct IfClause {
@@ -54,6 +56,7 @@ impl fmt::Display for IfClause {
     }
 }
 
+/// Writes an `if` statement.
 #[cycle(printing)]
 pub fn write_if<W: fmt::Write>(statement: &IfStatement, out: &mut Indented<'_, W>) -> fmt::Result
     ensures { WritesInto W.write_str_gives out.old result
@@ -74,6 +77,7 @@ pub fn write_if<W: fmt::Write>(statement: &IfStatement, out: &mut Indented<'_, W
     }
 }
 
+/// Writes the first clause of an `if` statement.
 #[cycle(printing)]
 pub fn write_if_clause<W: fmt::Write>(clause: &IfClause, out: &mut Indented<'_, W>) -> fmt::Result
     ensures { WritesInto W.write_str_gives out.old result

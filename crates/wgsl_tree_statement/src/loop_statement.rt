@@ -13,6 +13,7 @@ use wgsl_tree_attribute::Attributes;
 use wgsl_tree_simple::write_start;
 use wgsl_writer::Indented;
 
+/// A `loop` statement.
 #[cycle(statement)]
 #[derive(Debug, Drop)]
 pub struct LoopStatement {
@@ -32,6 +33,7 @@ impl fmt::Display for LoopStatement {
     }
 }
 
+/// Writes a `loop` statement.
 #[cycle(printing)]
 pub fn write_loop<W: fmt::Write>(
     statement: &LoopStatement,

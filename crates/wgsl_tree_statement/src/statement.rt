@@ -21,6 +21,7 @@ use wgsl_tree_simple::{
 };
 use wgsl_writer::Indented;
 
+/// A statement.
 #[cycle(statement)]
 #[derive(Debug, Drop)]
 pub enum Statement {
@@ -44,6 +45,7 @@ pub enum Statement {
     Declaration(Declaration),
 }
 
+/// A statement and where it is.
 pub type StatementNode = Spanned<Statement>;
 
 impl Statement {
@@ -84,6 +86,7 @@ impl fmt::Display for Statement {
     }
 }
 
+/// Writes a statement, with the `;` that ends it if one does.
 #[cycle(printing)]
 pub fn write_statement<W: fmt::Write>(
     statement: &Statement,

@@ -15,6 +15,7 @@ use wgsl_tree_simple::{
 };
 use wgsl_writer::Indented;
 
+/// A `switch` statement.
 #[cycle(statement)]
 #[derive(Debug, Drop)]
 pub struct SwitchStatement {
@@ -37,6 +38,7 @@ impl fmt::Display for SwitchStatement {
     }
 }
 
+/// A clause of a `switch` statement.
 #[cycle(statement)]
 #[derive(Debug, Drop)]
 pub struct SwitchClause {
@@ -56,6 +58,7 @@ impl fmt::Display for SwitchClause {
     }
 }
 
+/// Writes a `switch` statement.
 #[cycle(printing)]
 pub fn write_switch<W: fmt::Write>(
     statement: &SwitchStatement,
@@ -79,6 +82,7 @@ pub fn write_switch<W: fmt::Write>(
     out.write_piece("}")
 }
 
+/// Writes a clause of a `switch` statement.
 #[cycle(printing)]
 pub fn write_switch_clause<W: fmt::Write>(
     clause: &SwitchClause,

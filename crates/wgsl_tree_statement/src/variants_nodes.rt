@@ -25,108 +25,126 @@ use wgsl_tree_simple::{
 };
 
 impl Statement {
+    /// Returns whether this is `Statement::Void`.
     pub fn is_void(&self) -> bool
         ensures { result ≡ is_void (statement_view self.now) }
     {
         matches!(self, Statement::Void)
     }
 
+    /// Returns whether this is `Statement::Compound`.
     pub fn is_compound(&self) -> bool
         ensures { result ≡ is_compound (statement_view self.now) }
     {
         matches!(self, Statement::Compound(_))
     }
 
+    /// Returns whether this is `Statement::Assignment`.
     pub fn is_assignment(&self) -> bool
         ensures { result ≡ is_assignment (statement_view self.now) }
     {
         matches!(self, Statement::Assignment(_))
     }
 
+    /// Returns whether this is `Statement::Increment`.
     pub fn is_increment(&self) -> bool
         ensures { result ≡ is_increment (statement_view self.now) }
     {
         matches!(self, Statement::Increment(_))
     }
 
+    /// Returns whether this is `Statement::Decrement`.
     pub fn is_decrement(&self) -> bool
         ensures { result ≡ is_decrement (statement_view self.now) }
     {
         matches!(self, Statement::Decrement(_))
     }
 
+    /// Returns whether this is `Statement::If`.
     pub fn is_if(&self) -> bool
         ensures { result ≡ is_if (statement_view self.now) }
     {
         matches!(self, Statement::If(_))
     }
 
+    /// Returns whether this is `Statement::Switch`.
     pub fn is_switch(&self) -> bool
         ensures { result ≡ is_switch (statement_view self.now) }
     {
         matches!(self, Statement::Switch(_))
     }
 
+    /// Returns whether this is `Statement::Loop`.
     pub fn is_loop(&self) -> bool
         ensures { result ≡ is_loop (statement_view self.now) }
     {
         matches!(self, Statement::Loop(_))
     }
 
+    /// Returns whether this is `Statement::For`.
     pub fn is_for(&self) -> bool
         ensures { result ≡ is_for (statement_view self.now) }
     {
         matches!(self, Statement::For(_))
     }
 
+    /// Returns whether this is `Statement::While`.
     pub fn is_while(&self) -> bool
         ensures { result ≡ is_while (statement_view self.now) }
     {
         matches!(self, Statement::While(_))
     }
 
+    /// Returns whether this is `Statement::Break`.
     pub fn is_break(&self) -> bool
         ensures { result ≡ is_break (statement_view self.now) }
     {
         matches!(self, Statement::Break(_))
     }
 
+    /// Returns whether this is `Statement::Continue`.
     pub fn is_continue(&self) -> bool
         ensures { result ≡ is_continue (statement_view self.now) }
     {
         matches!(self, Statement::Continue(_))
     }
 
+    /// Returns whether this is `Statement::Return`.
     pub fn is_return(&self) -> bool
         ensures { result ≡ is_return (statement_view self.now) }
     {
         matches!(self, Statement::Return(_))
     }
 
+    /// Returns whether this is `Statement::Discard`.
     pub fn is_discard(&self) -> bool
         ensures { result ≡ is_discard (statement_view self.now) }
     {
         matches!(self, Statement::Discard(_))
     }
 
+    /// Returns whether this is `Statement::FunctionCall`.
     pub fn is_function_call(&self) -> bool
         ensures { result ≡ is_function_call (statement_view self.now) }
     {
         matches!(self, Statement::FunctionCall(_))
     }
 
+    /// Returns whether this is `Statement::ConstAssert`.
     pub fn is_const_assert(&self) -> bool
         ensures { result ≡ is_const_assert (statement_view self.now) }
     {
         matches!(self, Statement::ConstAssert(_))
     }
 
+    /// Returns whether this is `Statement::Declaration`.
     pub fn is_declaration(&self) -> bool
         ensures { result ≡ is_declaration (statement_view self.now) }
     {
         matches!(self, Statement::Declaration(_))
     }
 
+    /// Consumes this `Statement::Void`, which holds nothing.
     pub fn unwrap_void(self)
         requires { IsTrue (is_void (statement_view self)) }
         ensures { self ≡ statement.Void }
@@ -136,6 +154,7 @@ impl Statement {
         };
     }
 
+    /// Returns what this `Statement::Compound` holds.
     pub fn unwrap_compound(self) -> CompoundStatement
         requires { IsTrue (is_compound (statement_view self)) }
         ensures { self ≡ statement.Compound result }
@@ -146,6 +165,7 @@ impl Statement {
         inner
     }
 
+    /// Returns what this `Statement::Assignment` holds.
     pub fn unwrap_assignment(self) -> AssignmentStatement
         requires { IsTrue (is_assignment (statement_view self)) }
         ensures { self ≡ statement.Assignment result }
@@ -156,6 +176,7 @@ impl Statement {
         inner
     }
 
+    /// Returns what this `Statement::Increment` holds.
     pub fn unwrap_increment(self) -> IncrementStatement
         requires { IsTrue (is_increment (statement_view self)) }
         ensures { self ≡ statement.Increment result }
@@ -166,6 +187,7 @@ impl Statement {
         inner
     }
 
+    /// Returns what this `Statement::Decrement` holds.
     pub fn unwrap_decrement(self) -> DecrementStatement
         requires { IsTrue (is_decrement (statement_view self)) }
         ensures { self ≡ statement.Decrement result }
@@ -176,6 +198,7 @@ impl Statement {
         inner
     }
 
+    /// Returns what this `Statement::If` holds.
     pub fn unwrap_if(self) -> IfStatement
         requires { IsTrue (is_if (statement_view self)) }
         ensures { self ≡ statement.If result }
@@ -186,6 +209,7 @@ impl Statement {
         inner
     }
 
+    /// Returns what this `Statement::Switch` holds.
     pub fn unwrap_switch(self) -> SwitchStatement
         requires { IsTrue (is_switch (statement_view self)) }
         ensures { self ≡ statement.Switch result }
@@ -196,6 +220,7 @@ impl Statement {
         inner
     }
 
+    /// Returns what this `Statement::Loop` holds.
     pub fn unwrap_loop(self) -> LoopStatement
         requires { IsTrue (is_loop (statement_view self)) }
         ensures { self ≡ statement.Loop result }
@@ -206,6 +231,7 @@ impl Statement {
         inner
     }
 
+    /// Returns what this `Statement::For` holds.
     pub fn unwrap_for(self) -> ForStatement
         requires { IsTrue (is_for (statement_view self)) }
         ensures { self ≡ statement.For result }
@@ -216,6 +242,7 @@ impl Statement {
         inner
     }
 
+    /// Returns what this `Statement::While` holds.
     pub fn unwrap_while(self) -> WhileStatement
         requires { IsTrue (is_while (statement_view self)) }
         ensures { self ≡ statement.While result }
@@ -226,6 +253,7 @@ impl Statement {
         inner
     }
 
+    /// Returns what this `Statement::Break` holds.
     pub fn unwrap_break(self) -> BreakStatement
         requires { IsTrue (is_break (statement_view self)) }
         ensures { self ≡ statement.Break result }
@@ -236,6 +264,7 @@ impl Statement {
         inner
     }
 
+    /// Returns what this `Statement::Continue` holds.
     pub fn unwrap_continue(self) -> ContinueStatement
         requires { IsTrue (is_continue (statement_view self)) }
         ensures { self ≡ statement.Continue result }
@@ -246,6 +275,7 @@ impl Statement {
         inner
     }
 
+    /// Returns what this `Statement::Return` holds.
     pub fn unwrap_return(self) -> ReturnStatement
         requires { IsTrue (is_return (statement_view self)) }
         ensures { self ≡ statement.Return result }
@@ -256,6 +286,7 @@ impl Statement {
         inner
     }
 
+    /// Returns what this `Statement::Discard` holds.
     pub fn unwrap_discard(self) -> DiscardStatement
         requires { IsTrue (is_discard (statement_view self)) }
         ensures { self ≡ statement.Discard result }
@@ -266,6 +297,7 @@ impl Statement {
         inner
     }
 
+    /// Returns what this `Statement::FunctionCall` holds.
     pub fn unwrap_function_call(self) -> FunctionCallStatement
         requires { IsTrue (is_function_call (statement_view self)) }
         ensures { self ≡ statement.FunctionCall result }
@@ -276,6 +308,7 @@ impl Statement {
         inner
     }
 
+    /// Returns what this `Statement::ConstAssert` holds.
     pub fn unwrap_const_assert(self) -> ConstAssert
         requires { IsTrue (is_const_assert (statement_view self)) }
         ensures { self ≡ statement.ConstAssert result }
@@ -286,6 +319,7 @@ impl Statement {
         inner
     }
 
+    /// Returns what this `Statement::Declaration` holds.
     pub fn unwrap_declaration(self) -> Declaration
         requires { IsTrue (is_declaration (statement_view self)) }
         ensures { self ≡ statement.Declaration result }

@@ -13,6 +13,7 @@ use wgsl_tree_expression::ExpressionNode;
 use wgsl_tree_simple::{write_attribute_line, write_head};
 use wgsl_writer::Indented;
 
+/// A `while` statement.
 #[cycle(statement)]
 #[derive(Debug, Drop)]
 pub struct WhileStatement {
@@ -32,6 +33,7 @@ impl fmt::Display for WhileStatement {
     }
 }
 
+/// Writes a `while` statement.
 #[cycle(printing)]
 pub fn write_while<W: fmt::Write>(
     statement: &WhileStatement,

@@ -9,7 +9,7 @@ use Rattle.wgsl_span.specs.View.{spanned_view}
 use Rattle.wgsl_tree_unit.specs.declared.structure.StructMember.{StructMember}
 use Rattle.wgsl_tree_unit.specs.View.{member_view}
 
--- members with `,` and a line end between each two
+-- members with `,` and a line break between each two
 abbrev pub print_members : List (Spanned StructMember) → List ℕ
 print_members members =
     joined (codes ",\n")

@@ -20,6 +20,7 @@ use wgsl_span::CloneWith;
 use wgsl_tree_simple::clone_attributes;
 
 impl TranslationUnit {
+    /// Returns a copy, unless allocation fails.
     pub fn clone(&self, alloc: Global) -> Result<Self, AllocError>
         ensures { IfOk result (λ copy. unit_view copy ≡ unit_view self.now) }
     {
@@ -39,6 +40,7 @@ impl CloneWith for TranslationUnit {
 }
 
 impl GlobalDirective {
+    /// Returns a copy, unless allocation fails.
     pub fn clone(&self, alloc: Global) -> Result<Self, AllocError>
         ensures { IfOk result (λ copy. global_directive_view copy ≡ global_directive_view self.now) }
     {
@@ -63,6 +65,7 @@ impl CloneWith for GlobalDirective {
 }
 
 impl GlobalDeclaration {
+    /// Returns a copy, unless allocation fails.
     pub fn clone(&self, alloc: Global) -> Result<Self, AllocError>
         ensures { IfOk result (λ copy.
             global_declaration_view copy ≡ global_declaration_view self.now) }
@@ -97,6 +100,7 @@ impl CloneWith for GlobalDeclaration {
 }
 
 impl DiagnosticDirective {
+    /// Returns a copy, unless allocation fails.
     pub fn clone(&self, alloc: Global) -> Result<Self, AllocError>
         ensures { IfOk result (λ copy.
             diagnostic_directive_view copy ≡ diagnostic_directive_view self.now) }
@@ -118,6 +122,7 @@ impl CloneWith for DiagnosticDirective {
 }
 
 impl EnableDirective {
+    /// Returns a copy, unless allocation fails.
     pub fn clone(&self, alloc: Global) -> Result<Self, AllocError>
         ensures { IfOk result (λ copy. enable_directive_view copy ≡ enable_directive_view self.now) }
     {
@@ -137,6 +142,7 @@ impl CloneWith for EnableDirective {
 }
 
 impl RequiresDirective {
+    /// Returns a copy, unless allocation fails.
     pub fn clone(&self, alloc: Global) -> Result<Self, AllocError>
         ensures { IfOk result (λ copy.
             requires_directive_view copy ≡ requires_directive_view self.now) }
@@ -157,6 +163,7 @@ impl CloneWith for RequiresDirective {
 }
 
 impl Struct {
+    /// Returns a copy, unless allocation fails.
     pub fn clone(&self, alloc: Global) -> Result<Self, AllocError>
         ensures { IfOk result (λ copy. struct_view copy ≡ struct_view self.now) }
     {
@@ -177,6 +184,7 @@ impl CloneWith for Struct {
 }
 
 impl StructMember {
+    /// Returns a copy, unless allocation fails.
     pub fn clone(&self, alloc: Global) -> Result<Self, AllocError>
         ensures { IfOk result (λ copy. member_view copy ≡ member_view self.now) }
     {
@@ -197,6 +205,7 @@ impl CloneWith for StructMember {
 }
 
 impl TypeAlias {
+    /// Returns a copy, unless allocation fails.
     pub fn clone(&self, alloc: Global) -> Result<Self, AllocError>
         ensures { IfOk result (λ copy. type_alias_view copy ≡ type_alias_view self.now) }
     {
@@ -217,6 +226,7 @@ impl CloneWith for TypeAlias {
 }
 
 impl Function {
+    /// Returns a copy, unless allocation fails.
     pub fn clone(&self, alloc: Global) -> Result<Self, AllocError>
         ensures { IfOk result (λ copy. function_view copy ≡ function_view self.now) }
     {
@@ -240,6 +250,7 @@ impl CloneWith for Function {
 }
 
 impl FormalParameter {
+    /// Returns a copy, unless allocation fails.
     pub fn clone(&self, alloc: Global) -> Result<Self, AllocError>
         ensures { IfOk result (λ copy. parameter_view copy ≡ parameter_view self.now) }
     {

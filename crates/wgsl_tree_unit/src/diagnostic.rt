@@ -12,7 +12,8 @@ use wgsl_tree_attribute::Attributes;
 use wgsl_tree_simple::write_attributes;
 use wgsl_tree_words::DiagnosticSeverity;
 
-/// `diagnostic` with a severity and the name of a rule; the parts of a name in two are joined by a `.`.
+/// A `diagnostic` directive with a severity and the name of a rule; the parts of a name in two are
+/// joined by a `.`.
 #[derive(PartialEq, Debug, Drop)]
 pub struct DiagnosticDirective {
     pub attributes: Attributes,

@@ -14,7 +14,7 @@ use wgsl_tree_attribute::Attributes;
 use wgsl_tree_simple::write_attributes;
 use wgsl_writer::write_joined;
 
-/// `enable` with the names of extensions.
+/// An `enable` directive with the names of extensions.
 #[derive(PartialEq, Debug, Drop)]
 pub struct EnableDirective {
     pub attributes: Attributes,
@@ -30,7 +30,7 @@ impl fmt::Display for EnableDirective {
     }
 }
 
-/// `requires` with the names of extensions.
+/// A `requires` directive with the names of extensions.
 #[derive(PartialEq, Debug, Drop)]
 pub struct RequiresDirective {
     pub attributes: Attributes,

@@ -20,6 +20,7 @@ use wgsl_tree_expression::{Ident, TypeExpression};
 use wgsl_tree_statement::CompoundStatement;
 use wgsl_writer::write_joined;
 
+/// A declaration of a function.
 #[derive(PartialEq, Debug, Drop)]
 pub struct Function {
     pub attributes: Attributes,
@@ -31,7 +32,8 @@ pub struct Function {
 }
 
 impl Function {
-    /// The function without attributes and parameters, which returns nothing and has an empty body.
+    /// Creates the function without attributes and parameters, which returns nothing and has an
+    /// empty body.
     pub fn new(alloc: Global, ident: Ident) -> Self
         ensures { function_view result ≡ without_attributes (record {
           ident = ident_name ident;
@@ -74,7 +76,7 @@ pub struct FormalParameter {
 }
 
 impl FormalParameter {
-    /// The parameter without attributes.
+    /// Creates the parameter without attributes.
     pub fn new(alloc: Global, ident: Ident, ty: TypeExpression) -> Self
         ensures { parameter_view result
             ≡ record { attributes = []; ident = ident_name ident; ty = type_expression_view ty } }

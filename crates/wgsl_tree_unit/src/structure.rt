@@ -20,6 +20,7 @@ use wgsl_tree_expression::{Ident, TypeExpression};
 use wgsl_tree_simple::write_attributes;
 use wgsl_writer::Indented;
 
+/// A declaration of a structure.
 #[derive(PartialEq, Debug, Drop)]
 pub struct Struct {
     pub attributes: Attributes,
@@ -28,7 +29,7 @@ pub struct Struct {
 }
 
 impl Struct {
-    /// The structure without attributes and members.
+    /// Creates the structure without attributes and members.
     pub fn new(alloc: Global, ident: Ident) -> Self
         ensures { struct_view result
             ≡ without_attributes (record { ident = ident_name ident; members = [] }) }
@@ -50,6 +51,7 @@ impl fmt::Display for Struct {
     }
 }
 
+/// A member of a structure.
 #[derive(PartialEq, Debug, Drop)]
 pub struct StructMember {
     pub attributes: Attributes,
@@ -61,7 +63,7 @@ pub struct StructMember {
 pub type StructMemberNode = Spanned<StructMember>;
 
 impl StructMember {
-    /// The member without attributes.
+    /// Creates the member without attributes.
     pub fn new(alloc: Global, ident: Ident, ty: TypeExpression) -> Self
         ensures { member_view result
             ≡ record { attributes = []; ident = ident_name ident; ty = type_expression_view ty } }
@@ -113,7 +115,7 @@ fn write_members<W: fmt::Write>(
     outcome
 }
 
-/// Writes the lines of members, with a `,` and a line end between each two.
+/// Writes the lines of members, with a `,` and a line break between each two.
 fn write_member_lines<W: fmt::Write>(
     members: &[StructMemberNode],
     out: &mut Indented<'_, W>,
@@ -133,7 +135,7 @@ fn write_member_lines<W: fmt::Write>(
 }
 
 /// Writes what is before a member: before the first the four spaces, before each other a `,` and
-/// a line end.
+/// a line break.
 fn write_member_gap<W: fmt::Write>(first: bool, out: &mut Indented<'_, W>) -> fmt::Result
     ensures { WritesInto W.write_str_gives out.old result
         (if first then codes "    " else codes ",\n") out.new }

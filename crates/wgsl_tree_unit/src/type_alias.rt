@@ -21,7 +21,7 @@ pub struct TypeAlias {
 }
 
 impl TypeAlias {
-    /// The alias without attributes.
+    /// Creates the alias without attributes.
     pub fn new(alloc: Global, ident: Ident, ty: TypeExpression) -> Self
         ensures attributes { result.attributes.items ≡ [] }
         ensures ident { result.ident ≡ ident }

@@ -22,7 +22,7 @@ pub struct TranslationUnit {
 }
 
 impl TranslationUnit {
-    /// The module without directives and declarations.
+    /// Creates the module without directives and declarations.
     pub fn new(alloc: Global) -> Self
         ensures { unit_view result ≡ record { global_directives = []; global_declarations = [] } }
     {

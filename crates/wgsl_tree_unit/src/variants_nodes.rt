@@ -20,24 +20,28 @@ use crate::type_alias::TypeAlias;
 use wgsl_tree_simple::{ConstAssert, Declaration};
 
 impl GlobalDirective {
+    /// Returns whether this is `GlobalDirective::Diagnostic`.
     pub fn is_diagnostic(&self) -> bool
         ensures { result ≡ is_diagnostic (global_directive_view self.now) }
     {
         matches!(self, GlobalDirective::Diagnostic(_))
     }
 
+    /// Returns whether this is `GlobalDirective::Enable`.
     pub fn is_enable(&self) -> bool
         ensures { result ≡ is_enable (global_directive_view self.now) }
     {
         matches!(self, GlobalDirective::Enable(_))
     }
 
+    /// Returns whether this is `GlobalDirective::Requires`.
     pub fn is_requires(&self) -> bool
         ensures { result ≡ is_requires (global_directive_view self.now) }
     {
         matches!(self, GlobalDirective::Requires(_))
     }
 
+    /// Returns what this `GlobalDirective::Diagnostic` holds.
     pub fn unwrap_diagnostic(self) -> DiagnosticDirective
         requires { IsTrue (is_diagnostic (global_directive_view self)) }
         ensures { self ≡ global_directive.Diagnostic result }
@@ -48,6 +52,7 @@ impl GlobalDirective {
         inner
     }
 
+    /// Returns what this `GlobalDirective::Enable` holds.
     pub fn unwrap_enable(self) -> EnableDirective
         requires { IsTrue (is_enable (global_directive_view self)) }
         ensures { self ≡ global_directive.Enable result }
@@ -58,6 +63,7 @@ impl GlobalDirective {
         inner
     }
 
+    /// Returns what this `GlobalDirective::Requires` holds.
     pub fn unwrap_requires(self) -> RequiresDirective
         requires { IsTrue (is_requires (global_directive_view self)) }
         ensures { self ≡ global_directive.Requires result }
@@ -94,42 +100,49 @@ impl From<RequiresDirective> for GlobalDirective {
 }
 
 impl GlobalDeclaration {
+    /// Returns whether this is `GlobalDeclaration::Void`.
     pub fn is_void(&self) -> bool
         ensures { result ≡ is_void (global_declaration_view self.now) }
     {
         matches!(self, GlobalDeclaration::Void)
     }
 
+    /// Returns whether this is `GlobalDeclaration::Declaration`.
     pub fn is_declaration(&self) -> bool
         ensures { result ≡ is_declaration (global_declaration_view self.now) }
     {
         matches!(self, GlobalDeclaration::Declaration(_))
     }
 
+    /// Returns whether this is `GlobalDeclaration::TypeAlias`.
     pub fn is_type_alias(&self) -> bool
         ensures { result ≡ is_type_alias (global_declaration_view self.now) }
     {
         matches!(self, GlobalDeclaration::TypeAlias(_))
     }
 
+    /// Returns whether this is `GlobalDeclaration::Struct`.
     pub fn is_struct(&self) -> bool
         ensures { result ≡ is_struct (global_declaration_view self.now) }
     {
         matches!(self, GlobalDeclaration::Struct(_))
     }
 
+    /// Returns whether this is `GlobalDeclaration::Function`.
     pub fn is_function(&self) -> bool
         ensures { result ≡ is_function (global_declaration_view self.now) }
     {
         matches!(self, GlobalDeclaration::Function(_))
     }
 
+    /// Returns whether this is `GlobalDeclaration::ConstAssert`.
     pub fn is_const_assert(&self) -> bool
         ensures { result ≡ is_const_assert (global_declaration_view self.now) }
     {
         matches!(self, GlobalDeclaration::ConstAssert(_))
     }
 
+    /// Consumes this `GlobalDeclaration::Void`, which holds nothing.
     pub fn unwrap_void(self)
         requires { IsTrue (is_void (global_declaration_view self)) }
         ensures { self ≡ global_declaration.Void }
@@ -139,6 +152,7 @@ impl GlobalDeclaration {
         };
     }
 
+    /// Returns what this `GlobalDeclaration::Declaration` holds.
     pub fn unwrap_declaration(self) -> Declaration
         requires { IsTrue (is_declaration (global_declaration_view self)) }
         ensures { self ≡ global_declaration.Declaration result }
@@ -149,6 +163,7 @@ impl GlobalDeclaration {
         inner
     }
 
+    /// Returns what this `GlobalDeclaration::TypeAlias` holds.
     pub fn unwrap_type_alias(self) -> TypeAlias
         requires { IsTrue (is_type_alias (global_declaration_view self)) }
         ensures { self ≡ global_declaration.TypeAlias result }
@@ -159,6 +174,7 @@ impl GlobalDeclaration {
         inner
     }
 
+    /// Returns what this `GlobalDeclaration::Struct` holds.
     pub fn unwrap_struct(self) -> Struct
         requires { IsTrue (is_struct (global_declaration_view self)) }
         ensures { self ≡ global_declaration.Struct result }
@@ -169,6 +185,7 @@ impl GlobalDeclaration {
         inner
     }
 
+    /// Returns what this `GlobalDeclaration::Function` holds.
     pub fn unwrap_function(self) -> Function
         requires { IsTrue (is_function (global_declaration_view self)) }
         ensures { self ≡ global_declaration.Function result }
@@ -179,6 +196,7 @@ impl GlobalDeclaration {
         inner
     }
 
+    /// Returns what this `GlobalDeclaration::ConstAssert` holds.
     pub fn unwrap_const_assert(self) -> ConstAssert
         requires { IsTrue (is_const_assert (global_declaration_view self)) }
         ensures { self ≡ global_declaration.ConstAssert result }

@@ -1,4 +1,4 @@
-//! The values that stand for words of their own, and the operators.
+//! The values that are spelled as words of their own, and the operators.
 #![tactic(auto)]
 
 mod words_nodes;

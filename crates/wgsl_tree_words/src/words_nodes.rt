@@ -23,7 +23,7 @@ ghost use Rattle.wgsl_tree_words.specs.ViewNodes.{interpolation_sampling_view};
 
 use std::fmt;
 
-/// How a diagnostic is reported.
+/// A severity: how a diagnostic is reported.
 #[derive(Clone, Copy, PartialEq, Eq, Debug)]
 pub enum DiagnosticSeverity {
     Error,
@@ -33,7 +33,7 @@ pub enum DiagnosticSeverity {
 }
 
 impl DiagnosticSeverity {
-    /// The value whose word the text is.
+    /// Returns the value whose word the text is, or an error where there is none.
     pub fn from_str(text: &str) -> Result<Self, ()>
         ensures { MatchResult result
             (λ value. text.now ≡ severity_text (severity_view value))
@@ -62,7 +62,7 @@ impl fmt::Display for DiagnosticSeverity {
     }
 }
 
-/// Where a variable is stored.
+/// An address space: where a variable is stored.
 #[derive(Clone, Copy, PartialEq, Eq, Debug)]
 pub enum AddressSpace {
     Function,
@@ -73,7 +73,7 @@ pub enum AddressSpace {
 }
 
 impl AddressSpace {
-    /// The value whose word the text is.
+    /// Returns the value whose word the text is, or an error where there is none.
     pub fn from_str(text: &str) -> Result<Self, ()>
         ensures { MatchResult result
             (λ value. text.now ≡ address_space_text (address_space_view value))
@@ -104,7 +104,7 @@ impl fmt::Display for AddressSpace {
     }
 }
 
-/// How memory is used.
+/// An access mode: how memory is used.
 #[derive(Clone, Copy, PartialEq, Eq, Debug)]
 pub enum AccessMode {
     Read,
@@ -113,7 +113,7 @@ pub enum AccessMode {
 }
 
 impl AccessMode {
-    /// The value whose word the text is.
+    /// Returns the value whose word the text is, or an error where there is none.
     pub fn from_str(text: &str) -> Result<Self, ()>
         ensures { MatchResult result
             (λ value. text.now ≡ access_mode_text (access_mode_view value))
@@ -250,7 +250,7 @@ impl fmt::Display for AssignmentOperator {
     }
 }
 
-/// What a stage is given or gives.
+/// A built-in value, which a stage is given or gives.
 #[derive(Clone, Copy, PartialEq, Eq, Debug)]
 pub enum BuiltinValue {
     VertexIndex,
@@ -271,7 +271,7 @@ pub enum BuiltinValue {
 }
 
 impl BuiltinValue {
-    /// The value whose word the text is.
+    /// Returns the value whose word the text is, or an error where there is none.
     pub fn from_str(text: &str) -> Result<Self, ()>
         ensures { MatchResult result
             (λ value. text.now ≡ builtin_value_text (builtin_value_view value))
@@ -322,7 +322,7 @@ impl fmt::Display for BuiltinValue {
     }
 }
 
-/// How a value is interpolated.
+/// An interpolation type: how a value is interpolated.
 #[derive(Clone, Copy, PartialEq, Eq, Debug)]
 pub enum InterpolationType {
     Perspective,
@@ -331,7 +331,7 @@ pub enum InterpolationType {
 }
 
 impl InterpolationType {
-    /// The value whose word the text is.
+    /// Returns the value whose word the text is, or an error where there is none.
     pub fn from_str(text: &str) -> Result<Self, ()>
         ensures { MatchResult result
             (λ value. text.now ≡ interpolation_type_text (interpolation_type_view value))
@@ -358,7 +358,7 @@ impl fmt::Display for InterpolationType {
     }
 }
 
-/// Where a value is sampled.
+/// An interpolation sampling: where a value is sampled.
 #[derive(Clone, Copy, PartialEq, Eq, Debug)]
 pub enum InterpolationSampling {
     Center,
@@ -369,7 +369,7 @@ pub enum InterpolationSampling {
 }
 
 impl InterpolationSampling {
-    /// The value whose word the text is.
+    /// Returns the value whose word the text is, or an error where there is none.
     pub fn from_str(text: &str) -> Result<Self, ()>
         ensures { MatchResult result
             (λ value. text.now ≡ interpolation_sampling_text (interpolation_sampling_view value))

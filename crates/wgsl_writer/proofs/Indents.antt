@@ -37,7 +37,7 @@ after_one_line gap (x ∷ xs) h = elim (eqb_tells x 10) [
 pub front_range : (bs : List ℕ) (end : ℕ) → slice_range bs 0 end ≡ take end bs
 front_range bs end = let e : end - 0 ≡ end = omega arith in ap (λ n. take n bs) e
 
--- the text up to a line end, and that line end
+-- the text up to an LF, and that LF
 pub after_line : (gap bs : List ℕ) (end : ℕ) → IsLineEnd bs end → after_line_ends gap (take end bs) ≡ take end bs
 after_line gap bs end h = after_none gap (take end bs) (λ i p.
     let inside : i < end = omega (arith, p, h.0, length-take-le end bs (omega (arith, h.0))) in

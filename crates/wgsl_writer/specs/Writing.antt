@@ -6,7 +6,7 @@ use Rattle.wgsl_model.specs.Printed.Indentation.{after_line_ends}
 use Rattle.wgsl_writer.specs.declared.indented.Indented.{Indented}
 use Rattle.wgsl_writer.specs.Depth.{spaces}
 
--- the text was written with the spaces of the depth after each line end, and the depth is what it
+-- the text was written with the spaces of the depth after each LF, and the depth is what it
 -- was
 pub record Wrote {W : Type 0} (took : W → List ℕ → W → Type 0) (before : Indented W) (text : List ℕ)
     (after : Indented W) : Type 0 where

@@ -9,7 +9,7 @@ ghost use Rattle.wgsl_writer.specs.Writing.{IsBack, IsDeeper, WritesInto, Wrote}
 use std::fmt;
 use std::fmt::Write;
 
-/// Writes into a formatter, with the spaces of a depth after each line end.
+/// A writer into a formatter, with the spaces of a depth after each LF.
 #[derive(Drop)]
 pub struct Indented<'a, W> {
     to: &'a mut fmt::Formatter<W>,
@@ -18,7 +18,7 @@ pub struct Indented<'a, W> {
 }
 
 impl<'a, W: fmt::Write> Indented<'a, W> {
-    /// At the top, where there are no spaces.
+    /// Creates a writer at the top, where there are no spaces.
     pub fn new(to: &'a mut fmt::Formatter<W>) -> Self
         ensures to { result.to ≡ to.entry }
         ensures depth { result.depth ≡ 0 }
@@ -26,7 +26,7 @@ impl<'a, W: fmt::Write> Indented<'a, W> {
         Indented { to, depth: 0 }
     }
 
-    /// The formatter, to see what it holds.
+    /// Returns the formatter, to see what it holds.
     pub fn into_inner(self) -> &'a mut fmt::Formatter<W>
         ensures { result ≡ self.entry.to }
     {
@@ -69,7 +69,7 @@ impl<'a, W: fmt::Write> Indented<'a, W> {
         }
     }
 
-    /// Writes a text without line ends, which is not searched.
+    /// Writes a text without an LF, which is not searched.
     pub fn write_piece(&mut self, text: &str) -> fmt::Result
         requires { IsTrue (is_one_line text.now) }
         ensures { WritesInto W.write_str_gives self.old result text.now self.new }
@@ -125,7 +125,7 @@ fn write_line<'a, W: fmt::Write>(
     Ok(&text[end + 1..])
 }
 
-/// Where the first line end of a text is.
+/// Where the first LF of a text is.
 fn line_end(text: &str) -> Option<usize>
     ensures { MatchOption result (IsOneLine text.now (length text.now)) (λ at.
         IsLineEnd text.now at) }

@@ -160,7 +160,7 @@ enums! {
         Interpolate(InterpolateAttribute),
         /// `@workgroup_size(x, y, z)`: the sizes of a workgroup.
         WorkgroupSize(WorkgroupSizeAttribute),
-        /// `@type(ident, variants)`: a name, and the types that it may stand for.
+        /// `@type(ident, variants)`: a name, and the types that it may be.
         TypeConstraint(TypeConstraint),
         /// An attribute of another name.
         Custom(CustomAttribute),

@@ -343,7 +343,7 @@ structs! {
         /// The third size, if it is there.
         z: Option<Spanned<Expression>>,
     }
-    /// `@type(ident, variants)`: a name, and the types that it may stand for.
+    /// `@type(ident, variants)`: a name, and the types that it may be.
     TypeConstraint {
         /// The name.
         ident: Ident,

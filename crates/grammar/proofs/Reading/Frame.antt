@@ -20,7 +20,7 @@ span_append xs rest =
     let e : length (xs ++ rest) - length rest ≡ length xs = omega (arith, length-append xs rest) in
     ap span_of (ap (λ (n : ℕ). first_tokens n (xs ++ rest)) e ∙ front_append xs rest)
 
--- a list of tokens that stands for v, whatever comes after it
+-- a list of tokens whose value is v, whatever comes after it
 abbrev pub Word : {A : Type 0} → (A → List Token → List Token → Type 0) → A → List Token → Type 0
 Word P v p = (ys : List Token) → P v (p ++ ys) ys
 

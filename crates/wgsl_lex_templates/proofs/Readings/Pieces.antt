@@ -1,4 +1,4 @@
--- What pieces stand for, as tokens and stretches are pushed after them.
+-- The classes that pieces hold, as tokens and stretches are pushed after them.
 use Rattle.std.proofs.Common.{◌≡◌, ℕ, suc, ◌≤◌, List, [], ◌∷◌, ◌++◌, length, refl, sym, ap, ◌∙◌, take, append-nil, append_assoc, arith}
 use Rattle.std.proofs.lemmas.List.{length-append, length-take, take-append-le, take_all}
 use Rattle.wgsl_lex_token.specs.declared.kind_table.TokenKind.{TokenKind}

@@ -182,7 +182,7 @@ goes_on_by total text ps mid now k start b e word depth rest from after place ki
           (held_from ps start) (held ps b e) word depth rest from after place kind r front less n more),
     )
 
--- classes that may stand in place of those are held in their place
+-- classes that may replace those are held in their place
 pub shortened : (total : ℕ) (text cs ds : List ℕ) (word : Bool) (depth : ℕ) (rest : List ℕ)
     → MayReplace cs ds → Reaches total text ds word depth rest → Reaches total text cs word depth rest
 shortened total text cs ds word depth rest e r =

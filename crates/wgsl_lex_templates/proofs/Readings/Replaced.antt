@@ -1,4 +1,4 @@
--- Classes of tokens that may stand in place of others.
+-- Classes of tokens that may replace others.
 use Rattle.std.proofs.Common.{◌≡◌, ◌↔◌, ℕ, true, false, List, [], ◌∷◌, ◌++◌, map, inr, refl, sym, ap, subst, ◌∙◌}
 use Rattle.std.proofs.lemmas.List.{map-append}
 use Rattle.grammar.specs.Tokens.{Token}

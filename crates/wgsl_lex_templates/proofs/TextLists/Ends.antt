@@ -20,7 +20,7 @@ use Rattle.wgsl_lex_templates.specs.Spans.{end_from}
 use Rattle.wgsl_lex_templates.specs.TemplateEnds.{SkipsList}
 use Rattle.wgsl_lex_templates.specs.Lists.{ListEnds, TellLists}
 
--- what tells of a text tells of its ends
+-- what says where the lists of a text are says it of its ends
 pub tell_end : (total : ℕ) (spans : List Span) (text rest : List ℕ) → EndsWith text rest
     → TellLists total spans text → TellLists total spans rest
 tell_end total spans text rest h tell before following end e = tell (h.0 ++ before) following end

@@ -45,7 +45,7 @@ pub component_of_unsigned : print_expression (named_component (node (literal (u3
     ≡ decimal 1 ++ codes "u" ++ codes "." ++ codes "x"
 component_of_unsigned = refl
 
--- a call of a name that holds a line end
+-- a call of a name that holds a line break
 pub line_end_in_a_name : print_statement (block_statement (block (unattributed (function_call_statement
     (record { call = call (type_expression (codes "a\nb") no_template) no_expressions })) ∷ [])))
     ≡ codes "{\n    a\n    b();\n}"

@@ -32,7 +32,7 @@ unexpected_end_kind = 4
 abbrev pub extra_token_kind : ℕ
 extra_token_kind = 5
 
--- a severity that is none
+-- a severity that is not one
 abbrev pub diagnostic_severity_kind : ℕ
 diagnostic_severity_kind = 6
 
@@ -65,7 +65,7 @@ abbrev pub unexpected_end : ℕ → Fault
 unexpected_end place =
     record { kind = unexpected_end_kind; texts = []; span = record { start = place; end = next_place place } }
 
--- a severity that is none
+-- a severity that is not one
 abbrev pub diagnostic_severity : Span → Fault
 diagnostic_severity span = record { kind = diagnostic_severity_kind; texts = []; span = span }
 

@@ -34,7 +34,7 @@ pub data IsNamedUnchecked (L : Dialect) (n : Symbol) (ts : List Token) (ending :
   unchecked_missing : IsViable (rules L) n ts → (IsSentence (rules L) n ts → ⊥) → ending ≡ finished
       → IsNamedUnchecked L n ts ending (unexpected_end (last_end 0 ts))
 
--- where a text is recognised alone
+-- the same in the dialect
 abbrev pub IsNamedSmall : Symbol → List Token → Ending → Fault → Type 0
 IsNamedSmall n ts ending x = IsNamedUnchecked recognized n ts ending x
 

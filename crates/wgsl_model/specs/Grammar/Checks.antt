@@ -169,13 +169,13 @@ workgroup_size_attribute (Some (x ∷ (y ∷ []))) = right (workgroup_size (reco
 workgroup_size_attribute (Some (x ∷ (y ∷ (z ∷ [])))) = right (workgroup_size (record { x = x; y = Some y; z = Some z }))
 workgroup_size_attribute arguments = wrong (codes "expected 1-3 arguments")
 
--- a list of two: a name, and the types that it may stand for
+-- a list of two: a name, and the types that it may be
 abbrev pub name_and_variants : Option (List ℕ) → Option (List TypeExpression) → Checked Attribute
 name_and_variants None types = wrong (codes "invalid first argument (type name)")
 name_and_variants (Some name) None = wrong (codes "invalid second argument (type constraint)")
 name_and_variants (Some name) (Some types) = right (type_constraint (record { ident = name; variants = types }))
 
--- a list of two, a name and the types that it may stand for
+-- a list of two, a name and the types that it may be
 abbrev pub type_attribute : Arguments → Checked Attribute
 type_attribute (Some (t ∷ (c ∷ []))) = name_and_variants (untemplated_name t) (variants c)
 type_attribute arguments = wrong (codes "expected 2 arguments")

@@ -1,4 +1,4 @@
--- The grammar of a text that is recognised alone: the rules of its dialect.
+-- The grammar of the dialect: its rules.
 use Rattle.wgsl_model.specs.Grammar.Symbols.{Dialect.recognized, Symbol, Value, Rule}
 use Rattle.wgsl_model.specs.Grammar.Written.{rules}
 

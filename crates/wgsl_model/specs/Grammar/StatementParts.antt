@@ -27,7 +27,7 @@ attributes = many (symbol attribute gives attribute_node)
 abbrev pub attributed : {A B : Type 0} → (Attributes → A → B) → Rule A → Rule B
 attributed make g = attributes then g gives λ (a, x). make a x
 
--- A* where the draft has no attributes; where a text is recognised alone, none
+-- A* where the draft has no attributes; in the dialect, none
 abbrev pub leading : Dialect → Rule Attributes
 leading parsed = attributes
 leading recognized = empty []

@@ -3,7 +3,7 @@
 -- It accepts more than the draft: attributes before directives, declarations, clauses and most
 -- statements (`led`, `left_side`), attributes with any name, and `--` in a sum, as a subtraction of
 -- a negation.
--- L is the dialect. Where a text is recognised alone, names are identifier tokens alone, `--`
+-- L is the whole language or the dialect. In the dialect, names are identifier tokens alone, `--`
 -- is in no sum, nothing is checked, and the A* of `led` and `left_side` are none; all else is
 -- as in the whole language.
 use Rattle.std.specs.Prelude.{ℕ, List, [], ◌∷◌, Some}
@@ -29,7 +29,7 @@ abbrev pub rules : Dialect → (n : Symbol) → Rule (Value n)
 -- ---- expressions (WGSL, "Expression Grammar Summary")
 -- Ident: an identifier; a reserved word is taken for one, and is a fault
 rules parsed ident = token (Ident ∷ ReservedWord ∷ []) with_check unreserved
--- recognised alone: an identifier
+-- of the dialect: an identifier
 rules recognized ident = one_token Ident
 -- TypeSpecifier = Ident TemplateList?
 rules L type_specifier = symbol ident then optional (symbol template_list) gives type_of
@@ -64,7 +64,7 @@ rules L negated_expression = left_chain negated_product_of
     (SymMinusMinus ▹ symbol unary_expression makes negation_of)
     (multiplicative_operator then symbol unary_expression)
 -- Add = Mul / Add ("+" "-") Mul / Add NegMul, a subtraction by the first minus
--- recognised alone: Add = Mul / Add ("+" "-") Mul
+-- of the dialect: Add = Mul / Add ("+" "-") Mul
 rules L additive_expression = left_chain binary_of (symbol multiplicative_expression) (summand L)
 -- Shift = Add / Unary "<<" Unary / Unary ">>" Unary
 rules L shift_expression = symbol additive_expression
@@ -88,7 +88,7 @@ rules L lhs_expression = open_left_side or parenthesized_left_side
 rules parsed attribute =
     SymAttr ▹ token (Ident ∷ ReservedWord ∷ keyword_classes) then optional (symbol arguments)
     makes attribute_parts with_check attribute_fault
--- recognised alone: A = "@" Ident Args?
+-- of the dialect: A = "@" Ident Args?
 rules recognized attribute = SymAttr ▹ one_token Ident then optional (symbol arguments) makes attribute_parts
 -- ---- statements (WGSL, "Statements")
 -- Block = A* "{" Statement* "}"
@@ -186,7 +186,7 @@ rules L for_update = (symbol assignment or symbol phony_assignment or symbol inc
 -- "Functions")
 -- "var" TemplateList?, the address space and access mode of a variable
 rules parsed var_template = KwVar ▹ optional (symbol template_list) with_check var_fault
--- recognised alone: "var" TemplateList?
+-- of the dialect: "var" TemplateList?
 rules recognized var_template = KwVar ▹ optional (symbol template_list)
 -- Typed = Ident (":" TypeSpecifier)?
 rules L typed_ident = symbol ident then optional (SymColon ▹ symbol type_specifier)
@@ -229,7 +229,7 @@ rules L function_declaration = attributed with_attributes
 -- ---- directives and modules (WGSL, "Directives", "Diagnostics", "WGSL Module")
 -- "diagnostic" "(" Severity, an identifier that names a severity
 rules parsed diagnostic_severity = KwDiagnostic ▹ SymParenLeft ▹ symbol ident with_check λ t span. severity_fault t
--- recognised alone: "diagnostic" "(" Severity, an identifier
+-- of the dialect: "diagnostic" "(" Severity, an identifier
 rules recognized diagnostic_severity = KwDiagnostic ▹ SymParenLeft ▹ symbol ident
 -- Directive = one of three
 rules L global_directive = symbol enable_directive or symbol requires_directive or symbol diagnostic_directive

@@ -27,7 +27,7 @@ abbrev pub print_workgroup_size : WorkgroupSizeAttribute → List ℕ
 print_workgroup_size w = codes "@workgroup_size(" ++ print_expression_node w.x ++ print_further w.y
     ++ print_further w.z ++ codes ")"
 
--- a name, and the types that it may stand for
+-- a name, and the types that it may be
 abbrev pub print_type_constraint : TypeConstraint → List ℕ
 print_type_constraint t = t.ident ++ codes ", " ++ joined (codes " | ") (map print_type t.variants)
 

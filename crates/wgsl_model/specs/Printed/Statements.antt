@@ -27,7 +27,7 @@ terminator_of s = codes ";"
 abbrev pub braced : List (List ℕ) → List ℕ
 braced texts = codes "{\n" ++ indented (joined (codes "\n") texts) ++ codes "\n}"
 
--- a text four spaces in, and a line end
+-- a text four spaces in, and a line break
 abbrev pub indented_line : List ℕ → List ℕ
 indented_line text = indented text ++ codes "\n"
 

@@ -38,7 +38,7 @@ print_type_alias a = codes "alias " ++ a.ident ++ codes " = " ++ print_type a.ty
 abbrev pub print_member : StructMember → List ℕ
 print_member m = print_attribute_line m.attributes ++ m.ident ++ codes ": " ++ print_type m.ty
 
--- members with `,` and a line end between each two, four spaces in
+-- members with `,` and a line break between each two, four spaces in
 abbrev pub print_struct : Struct → List ℕ
 print_struct s = codes "struct " ++ s.ident ++ codes " {\n"
     ++ indented (joined (codes ",\n") (map (λ (m : Spanned StructMember). print_member m.node) s.members))
@@ -90,7 +90,7 @@ print_directives [] = []
 print_directives (d ∷ ds) = joined (codes "\n") (map print_directive (d ∷ ds)) ++ codes "\n\n"
 
 -- a module: its directives, then the declarations that are not empty with an empty line between
--- each two, then a line end
+-- each two, then a line break
 abbrev pub print_unit : TranslationUnit → List ℕ
 print_unit u = print_directives u.global_directives
     ++ joined (codes "\n\n") (declaration_texts u.global_declarations) ++ codes "\n"

@@ -1,4 +1,4 @@
--- The spellings of numbers and what they stand for (WGSL, "Numeric Literals"). More than in the
+-- The spellings of numbers and their values (WGSL, "Numeric Literals"). More than in the
 -- draft, the digits before the suffix `f` or `h` may begin with 0, as in `01f`.
 use Rattle.std.specs.Prelude.{ℕ, ◌+◌, ◌*◌, ◌^◌, Bool, not, ◌&&◌, ◌||◌, ◌==◌, nat_lt, if◌then◌else◌, List, [], ◌∷◌, Option, Some, None, pos}
 use Rattle.std.specs.Char.{is_ascii_digit, is_ascii_hexdigit, digit_value}
@@ -102,7 +102,7 @@ number_spelling =
     whole_number empty or whole_number i_suffix or whole_number u_suffix
     or abstract_float or float f_suffix or float h_suffix
 
--- the number that digits stand for, read on from the value of those before
+-- the value of digits, read on from the value of those before
 abbrev pub digits_value : ℕ → ℕ → List ℕ → ℕ
 digits_value radix n [] = n
 digits_value radix n (c ∷ cs) = digits_value radix (n * radix + digit_value c) cs
@@ -126,7 +126,7 @@ number_below class limit n = if nat_lt n limit then Some (record { class = class
 abbrev pub float_of : ℕ → List ℕ → Option Kind
 float_of class word = Some (named class (encode_utf8_all word))
 
--- what the spelling of a number stands for; none where a whole number does not fit its type
+-- the value of the spelling of a number; none where a whole number does not fit its type
 abbrev pub number_of : List ℕ → Option Kind
 number_of word =
     if spells (whole_number empty) word then number_below AbstractInt (2 ^ 63) (number_value word)

@@ -20,7 +20,7 @@ front text rest = take (length text - length rest) text
 abbrev pub other_word : List ℕ → Kind
 other_word word = if is_word_among reserved_words word then named ReservedWord word else named Ident word
 
--- the keyword that was found, or a word that is none
+-- the keyword that was found, or a word that is not one
 abbrev pub keyword_or_name : Option ℕ → List ℕ → Kind
 keyword_or_name (Some keyword) word = plain keyword
 keyword_or_name None word = other_word word
@@ -46,7 +46,7 @@ pub data Raw : Type 0 where
   invalid : List ℕ → List ℕ → Raw
   token : Kind → List ℕ → List ℕ → Raw
 
--- the token that a spelling is, or an invalid one where it stands for nothing
+-- the token that a spelling is, or an invalid one where it has no value
 abbrev pub valued : List ℕ → List ℕ → Option Kind → Raw
 valued text rest None = invalid text rest
 valued text rest (Some kind) = token kind text rest

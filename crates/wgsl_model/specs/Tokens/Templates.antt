@@ -68,7 +68,7 @@ pub data Inside (total : ℕ) (IsTemplate : TemplateRelation) : ℕ → List ℕ
       → raw text ≡ token kind from after → is_word kind.class ≡ true → IsTemplate after us rest
       → Inside total IsTemplate depth rest ts end → Inside total IsTemplate depth text
       (placed kind (place total from) (place total after) ∷ (us ++ ts)) end
-  -- every other token stands for itself
+  -- every other token is taken as it is
   at_other : (depth : ℕ) (text from after end : List ℕ) (kind : Kind) (ts : List Token)
       → raw text ≡ token kind from after → goes_on depth kind.class ≡ true
       → (is_word kind.class ≡ true → NoTemplate IsTemplate after)

@@ -10,7 +10,7 @@ pub use Rattle.wgsl_model.specs.Tokens.Places.{width, place}
 
 -- The tokens of a text that ends a source of a number of bytes, and how they end: with the text, or
 -- with the first invalid token. A template list after a word is taken whole; every other token
--- stands for itself.
+-- is taken as it is.
 pub data TokensOf (total : ℕ) : List ℕ → List Token → Ending → Type 0 where
   at_end : (text : List ℕ) → raw text ≡ none_left → TokensOf total text [] finished
   at_fault : (text from after : List ℕ) → raw text ≡ invalid from after

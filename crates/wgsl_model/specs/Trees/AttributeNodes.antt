@@ -20,7 +20,7 @@ pub record WorkgroupSizeAttribute : Type 0 where
   pub y : Option ExpressionNode
   pub z : Option ExpressionNode
 
--- `@type(ident, variants)`: a name, and the types that it may stand for
+-- `@type(ident, variants)`: a name, and the types that it may be
 pub record TypeConstraint : Type 0 where
   pub ident : List ℕ
   pub variants : List TypeExpression

@@ -1,4 +1,4 @@
--- The values that stand for words of their own, each with its word, and the tables of these.
+-- The values that are spelled as words of their own, each with its word, and the tables of these.
 pub use Rattle.wgsl_model.specs.Trees.WordTables.{WordTable, words_of, with_words}
 -- names of WordNodes, written by tools/tables/plain_words.py
 pub use Rattle.wgsl_model.specs.Trees.WordNodes.{

@@ -6,7 +6,7 @@ use Rattle.wgsl_model.specs.Trees.Spanned.{Spanned}
 use Rattle.wgsl_model.specs.Trees.Expressions.{ExpressionNode, expression_node, Expression, literal, parenthesized, named_component, indexing, unary, binary, function_call, type_or_identifier, FunctionCall, call, TypeExpression, type_expression, TemplateArguments, no_template, template, ExpressionNodes, no_expressions, expression_before}
 use Rattle.wgsl_model.specs.Trees.Attributes.{Attribute, with_argument, Attribute.workgroup_size, Attribute.type_constraint, Attribute.custom, Attributes, WorkgroupSizeAttribute, TypeConstraint, CustomAttribute}
 
--- the span that stands for every span
+-- the span that replaces every span
 abbrev pub no_span : Span
 no_span = record { start = 0; end = 0 }
 

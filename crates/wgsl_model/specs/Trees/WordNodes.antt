@@ -62,7 +62,7 @@ assignment_operator_text xor_equal = codes "^="
 assignment_operator_text shift_right_assign = codes ">>="
 assignment_operator_text shift_left_assign = codes "<<="
 
--- how a diagnostic is reported (WGSL, "Diagnostics")
+-- a severity: how a diagnostic is reported (WGSL, "Diagnostics")
 pub data DiagnosticSeverity : Type 0 where
   error warning info off : DiagnosticSeverity
 
@@ -77,7 +77,7 @@ severity_text off = codes "off"
 abbrev pub severities : WordTable DiagnosticSeverity
 severities = with_words severity_text (error ∷ warning ∷ info ∷ off ∷ [])
 
--- where a variable is stored (WGSL, "Address Spaces")
+-- an address space: where a variable is stored (WGSL, "Address Spaces")
 pub data AddressSpace : Type 0 where
   function private workgroup uniform storage : AddressSpace
 
@@ -93,7 +93,7 @@ address_space_text storage = codes "storage"
 abbrev pub address_spaces : WordTable AddressSpace
 address_spaces = with_words address_space_text (function ∷ private ∷ workgroup ∷ uniform ∷ storage ∷ [])
 
--- how memory is used (WGSL, "Memory Access Mode")
+-- an access mode: how memory is used (WGSL, "Memory Access Mode")
 pub data AccessMode : Type 0 where
   read write read_write : AccessMode
 
@@ -107,7 +107,7 @@ access_mode_text read_write = codes "read_write"
 abbrev pub access_modes : WordTable AccessMode
 access_modes = with_words access_mode_text (read ∷ write ∷ read_write ∷ [])
 
--- what a stage is given or gives (WGSL, "Built-in Inputs and Outputs")
+-- a built-in value, which a stage is given or gives (WGSL, "Built-in Inputs and Outputs")
 pub data BuiltinValue : Type 0 where
   vertex_index instance_index clip_distances position front_facing frag_depth sample_index
       sample_mask local_invocation_id local_invocation_index global_invocation_id workgroup_id
@@ -138,7 +138,7 @@ builtin_values = with_words builtin_value_text
     ∷ sample_index ∷ sample_mask ∷ local_invocation_id ∷ local_invocation_index ∷ global_invocation_id
     ∷ workgroup_id ∷ num_workgroups ∷ subgroup_invocation_id ∷ subgroup_size ∷ [])
 
--- how a value is interpolated (WGSL, "Interpolation")
+-- an interpolation type: how a value is interpolated (WGSL, "Interpolation")
 pub data InterpolationType : Type 0 where
   perspective linear flat : InterpolationType
 
@@ -152,7 +152,7 @@ interpolation_type_text flat = codes "flat"
 abbrev pub interpolation_types : WordTable InterpolationType
 interpolation_types = with_words interpolation_type_text (perspective ∷ linear ∷ flat ∷ [])
 
--- where a value is sampled (WGSL, "Interpolation")
+-- an interpolation sampling: where a value is sampled (WGSL, "Interpolation")
 pub data InterpolationSampling : Type 0 where
   center centroid sample first either : InterpolationSampling
 

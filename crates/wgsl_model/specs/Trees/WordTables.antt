@@ -1,7 +1,7 @@
--- Tables of words, each with what it stands for.
+-- Tables of words, each with its value.
 use Rattle.std.specs.Prelude.{ℕ, List, [], ◌∷◌, map}
 
--- words, each with what it stands for
+-- words, each with its value
 abbrev pub WordTable : Type 0 → Type 0
 WordTable A = List (List ℕ × A)
 

@@ -159,7 +159,7 @@ unchecked_excludes L n ts _ (unchecked_unexpected q vs t e w none) i = all_or_un
 unchecked_excludes L n ts _ (unchecked_carried x w c) i = not_both x finished c refl
 unchecked_excludes L n ts _ (unchecked_missing w s c) i = s i
 
--- the same of a text that is recognised alone
+-- the same of a text of the dialect
 pub named_alone_excludes : (n : Symbol) (ts : List Token) (x : Fault) → IsNamedSmall n ts finished x
     → (v : Value n) → Derives checking small n v ts → ⊥
 named_alone_excludes n ts x h v d = unchecked_excludes recognized n ts x h (v, loosen checking small n v ts [] d)

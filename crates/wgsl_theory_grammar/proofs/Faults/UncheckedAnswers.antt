@@ -94,7 +94,7 @@ pub syntax_answers_are_true : (n : Symbol) (ts : List Token) (ending : Ending)
 syntax_answers_are_true n ts ending = answers_are_true parsed n
     (λ v. IsSentence written n ts) ts ending (λ v d. derived_sentence parsed n v ts d)
 
--- and where a text is recognised alone
+-- and in the dialect
 pub small_answers_are_true : (n : Symbol) (ts : List Token) (ending : Ending)
     → IsSmallAnswer n ts ending (small_answer_of n ts ending)
 small_answers_are_true n ts ending = answers_are_true recognized n (λ v. Derives checking small n v ts)

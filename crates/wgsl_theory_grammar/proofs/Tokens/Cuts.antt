@@ -78,7 +78,7 @@ spelling-passes : (c : ℕ) (cs rest : List ℕ) → after_spelling spelling (c 
 unfolding after_spelling
 spelling-passes c cs rest e = longest-passes (spells spelling) c cs rest empty-spells e
 
--- so a spelling cuts a text, whatever it stands for
+-- so a spelling cuts a text, whatever its value is
 valued-cuts : (text rest : List ℕ) (o : Option Kind) → EndsPast text rest → IsCut text (valued text rest o)
 valued-cuts text rest None h = (([], refl), h)
 valued-cuts text rest (Some kind) h = (([], refl), h)

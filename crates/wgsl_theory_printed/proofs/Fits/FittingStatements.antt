@@ -58,7 +58,7 @@ IsSoundDecrement d = EndsWithNameNode d.expression × IsSoundNode d.expression
 
 -- ---- lines and symbols
 
--- what holds before every line end holds before a line
+-- what holds before every line break holds before a line
 pub before_line : (P : List ℕ → Type 0) (n : ℕ) (rest : List Piece) → ((cs : List ℕ) → P (10 ∷ cs))
     → P (render (line n rest))
 before_line P zero rest h = h (render rest)

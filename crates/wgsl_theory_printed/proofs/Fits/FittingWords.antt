@@ -27,7 +27,7 @@ use Rattle.wgsl_theory_printed.proofs.Spelling.Spellings.{EndsBefore, spelling_a
 use Rattle.wgsl_theory_printed.proofs.Spelling.Signs.{begins_name, begins_sign, identifier_begins, goes_on, no_longer_symbol, NotOn, one_of_three, looked_up, spelled_symbol, sign_ends_before, sign_stands}
 use Rattle.wgsl_theory_printed.proofs.Spelling.Ends.{EndsName, IsNameText, name_no_number, name_stands}
 
--- ---- no token but a line end holds one
+-- ---- no token but a line break holds one
 
 on_one_line : (text : List ℕ) → ((i : ℕ) → i < length text → (get_or text i 0 == 10) ≡ false) → OnOneLine text
 on_one_line [] h = tt

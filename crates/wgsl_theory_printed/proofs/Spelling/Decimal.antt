@@ -12,7 +12,7 @@ use Rattle.wgsl_theory_printed.proofs.Spelling.Split.{Each}
 abbrev pub IsDecimal : ℕ → List ℕ → Type 0
 IsDecimal c cs = ((c ≡ 48) × (cs ≡ [])) ⊎ ((is_nonzero_digit c ≡ true) × Each is_ascii_digit cs)
 
--- digits that stand for a number
+-- digits whose value is a number
 abbrev pub Numeral : ℕ → List ℕ → Type 0
 Numeral n [] = ⊥
 Numeral n (c ∷ cs) = IsDecimal c cs × (digits_value 10 0 (c ∷ cs) ≡ n)

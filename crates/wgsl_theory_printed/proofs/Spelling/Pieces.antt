@@ -9,7 +9,7 @@ use Rattle.wgsl_model.specs.Tokens.Raw.{Raw.token, raw, raw_at}
 use Rattle.wgsl_model.specs.Tokens.Trivia.{after_trivia}
 use Rattle.wgsl_theory_templates.proofs.Reaching.Reach.{Role, template_start, template_end, role}
 
--- a space, a line end, a word with its bytes and its kind, and the `<` and the `>` of a template
+-- a space, a line break, a word with its bytes and its kind, and the `<` and the `>` of a template
 -- list
 pub data Piece : Type 0 where
   space line_end opens closes : Piece
@@ -55,7 +55,7 @@ IsOrdinary k = IsOrdinaryRole (role k.class)
 abbrev pub Stands : List ℕ → Kind → List ℕ → Type 0
 Stands w k rest = raw (w ++ rest) ≡ token k (w ++ rest) rest
 
--- no byte is a line end
+-- no byte is a line break
 abbrev pub OnOneLine : List ℕ → Type 0
 OnOneLine [] = Unit {0}
 OnOneLine (b ∷ bs) = ((b == 10) ≡ false) × OnOneLine bs

@@ -9,7 +9,7 @@ use Rattle.wgsl_theory_printed.proofs.Spelling.Pieces.{Piece, space, line_end, o
 
 -- ---- indented texts
 
--- four spaces after each line end
+-- four spaces after each line break
 abbrev pub pushed : List ℕ → List ℕ
 pushed = after_line_ends (codes "    ")
 
@@ -49,7 +49,7 @@ Puts = List Piece → List Piece
 abbrev pub four : Puts
 four rest = space ∷ (space ∷ (space ∷ (space ∷ rest)))
 
--- a line end, and the indentation of the next line
+-- a line break, and the indentation of the next line
 abbrev pub line : ℕ → Puts
 line zero rest = line_end ∷ rest
 line (suc n) rest = line n (four rest)

@@ -35,7 +35,7 @@ data Written (a : ℕ) (s : List Kind) : List Kind → Type 0 where
   case_before : (c : List Kind) → is_word_role (role a) ≡ true → Edits false s c
       → Written a s (plain KwCase ∷ (plain KwDefault ∷ c))
 
--- the role of a class tells
+-- what holds of the role of a class
 by_class : (test : Role → Bool) (c a : ℕ) → c ≡ a → test (role a) ≡ true → test (role c) ≡ true
 by_class test c a q h = ap (λ (x : ℕ). test (role x)) q ∙ h
 

@@ -228,7 +228,7 @@ module _ (total : ℕ) where
       ap (λ (x : List Kind). k ∷ x) (map-append without_place vs ts ∙ ap₂ (λ (x y : List Kind). x ++ y) e f
       ∙ ap (λ (x : List Kind). start ∷ x) (append_assoc us (end ∷ []) ks))
 
-  -- a token that stands for itself, before a run
+  -- a token that is taken as it is, before a run
   found_other : (depth : ℕ) (k : Kind) (ks : List Kind) (Rest : List ℕ → Type 0) (text from after : List ℕ)
       → raw text ≡ token k from after → goes_on depth k.class ≡ true
       → (is_word k.class ≡ true → NoTemplate (Template total) after)

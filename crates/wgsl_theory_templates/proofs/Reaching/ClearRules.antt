@@ -24,7 +24,7 @@ use Rattle.wgsl_theory_templates.proofs.Reaching.After.{compared_closes, operand
 use Rattle.wgsl_theory_templates.proofs.Reaching.Clear.{template_ends, AllClear, done, other_token, template, Need, any_tokens, rest_of_shift, rest_of_list, end_of_list, Meets, need, is_enough, enough, Cut, wider_cut, none_cut, both_cut, is_plain, token_cut, Cleared, derived, moved}
 
 -- ---- the test
--- the items of lists that stand for expressions
+-- the items of lists that are expressions
 abbrev begins_list : Symbol → Bool
 begins_list expression = true
 begins_list case_selector = true

@@ -1,4 +1,4 @@
--- Tokens that may stand in place of others: one after another, and part by part.
+-- Tokens that may replace others: one after another, and part by part.
 use Rattle.std.proofs.Common.{◌≡◌, ◌↔◌, List, [], ◌++◌, sym, ap, subst, ◌∙◌, append_assoc, append-nil}
 use Rattle.grammar.specs.Tokens.{Token}
 use Rattle.wgsl_theory_grammar.proofs.Tokens.Decided.{IsList}

@@ -120,7 +120,7 @@ no_token : (us : List Token) (l : Token) (ys : List Token) → [] ≡ us ++ (l �
 no_token [] l ys w = cc
 no_token (u ∷ us) l ys w = cc
 
--- nor does such an operator stand for a token of other classes
+-- nor is such an operator a token of other classes
 no_sign : (s : List ℕ) (t l : Token) → disjoint s less_signs ≡ true → is_among t.class s ≡ true
     → is_among l.class less_signs ≡ true → t ≡ l → ⊥
 no_sign s t l d m c e = clash _ (ap (λ (x : Token). is_among x.class less_signs) e ∙ c) (apart t.class s less_signs d m)

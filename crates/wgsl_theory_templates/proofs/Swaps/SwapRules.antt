@@ -1,5 +1,5 @@
 -- Tokens stay a list of expressions where template lists in them, and what is between
--- parentheses, stand in place of others.
+-- parentheses, are in place of others.
 use Rattle.std.proofs.Common.{◌≡◌, ℕ, Bool, true, false, ◌&&◌, ◌==◌, if◌then◌else◌, Some, None, List, [], ◌∷◌, ◌++◌, inl, inr, refl, sym, ap, subst, ◌∙◌}
 use Rattle.grammar.specs.Tokens.{Token, Fault, Span, span_between}
 use Rattle.grammar.specs.Grammar.{Grammar, Grammar.empty, Grammar.token, Grammar.sequence, Grammar.choice, Grammar.mapped, Grammar.node, Grammar.checked, Grammar.symbol, Grammar.left_chain, Mode.checking, Chain, Chain.base, Chain.more, Means, is_among}
@@ -27,7 +27,7 @@ use Rattle.wgsl_theory_templates.proofs.Swaps.SameRest.{same_rest}
 use Rattle.wgsl_theory_templates.proofs.Swaps.Swapped.{IsTemplate, IsGroup, IsOne, Swapped, none_swapped, with_token, with_enclosed, Begins, begins, starts, begins_alike}
 
 -- ---- right sides
--- from the tokens zs something is derived too, before tokens that stand in place of ys
+-- from the tokens zs something is derived too, before tokens that are in place of ys
 abbrev pub Also : {A : Type 0} → (A → List Token → List Token → Type 0) → List Token → List Token → Type 0
 Also {A} P zs ys = (w : A) × (rest : List Token) × P w zs rest × Swapped ys rest
 
@@ -132,7 +132,7 @@ made c e g start end w zs us ms ys k l i j d = ((start, w), refl, (us, (k, i), (
 is_class : (c d : ℕ) → c ≡ d → is_among d (d ∷ []) ≡ true → is_among c (d ∷ []) ≡ true
 is_class c d q h = ap (λ (x : ℕ). is_among x (d ∷ [])) q ∙ h
 
--- where a token stands in place of the first, so does one in place of the last
+-- where a token is in place of the first, one is in place of the last
 token_between : {A : Type 0} (c e : ℕ) (g : Grammar Symbol Value A) → is_steady g ≡ true
     → disjoint (e ∷ []) starts ≡ true
     → (v : A) (xs ys : List Token) (d : Means checking Known (c ▹ g ◃ e) v xs ys)

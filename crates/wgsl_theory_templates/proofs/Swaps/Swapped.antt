@@ -1,4 +1,4 @@
--- Tokens in which template lists and what is between parentheses stand in place of others: this
+-- Tokens in which template lists and what is between parentheses are in place of others: this
 -- goes both ways and part by part, and how such tokens begin.
 use Rattle.std.proofs.Common.{◌≡◌, ◌↔◌, ◌⊎◌, ℕ, true, false, List, [], ◌∷◌, ◌++◌, inl, inr, refl, sym, ap, subst, ◌∙◌, append_assoc}
 use Rattle.grammar.specs.Tokens.{Token}
@@ -30,7 +30,7 @@ abbrev pub AreAlike : Token → List Token → Token → Token → List Token �
 AreAlike s us e t vs f = (IsTemplate s us e × IsTemplate t vs f)
     ⊎ (IsGroup s us e × IsGroup t vs f × (IsOne us ↔ IsOne vs))
 
--- two lists of tokens: a token stands in place of one of its class, and what is between two tokens
+-- two lists of tokens: a token is in place of one of its class, and what is between two tokens
 -- in place of what is alike
 pub data Swapped : List Token → List Token → Type 0 where
   no_tokens : Swapped [] []
@@ -74,7 +74,7 @@ none_swapped _ _ no_tokens w = refl
 none_swapped _ _ (one_token t u xs ys c s) w = absurd cc
 none_swapped _ _ (one_enclosed s e t f us vs xs ys a m) w = absurd cc
 
--- what stands in place of tokens that begin with t: a token of its class, or what is alike where t
+-- what is in place of tokens that begin with t: a token of its class, or what is alike where t
 -- begins what is between two tokens
 pub data Begins (t : Token) (ts zs : List Token) : Type 0 where
   with_token : (u : Token) (us : List Token) → zs ≡ u ∷ us → t.class ≡ u.class → Swapped ts us → Begins t ts zs

@@ -17,7 +17,7 @@ abbrev GoesOn : Last → Type 0
 GoesOn line_comment = ⊥
 GoesOn last = Unit {0}
 
--- nothing, a space, or the line end
+-- nothing, a space, or the line break
 pub data Gapped (break : Gap) (last : Last) : Gap → Type 0 where
   no_gap : GoesOn last → Gapped break last closed
   one_gap : GoesOn last → Gapped break last one_blank

@@ -129,7 +129,7 @@ last_over layout _ (last_open p u) spot marks l opened s =
 
 -- ---- brackets
 
--- the line of each open bracket is as deep as the line that closes it; true stands for brackets,
+-- the line of each open bracket is as deep as the line that closes it; true is for brackets,
 -- which have lines
 pub data Agree (layout : Layout) : List Bool → Opened → List Line → Type 0 where
   agree_none : (os : Opened) (ls : List Line) → Agree layout [] os ls

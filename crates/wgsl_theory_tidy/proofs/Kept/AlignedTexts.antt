@@ -91,7 +91,7 @@ space_over _ (one_tab xs i) space opened r a = (
       (subst (λ s. Aligned outside (blank s) opened r) (sym (append_assoc space (9 ∷ []) xs)) a),
 )
 
--- a line end and the blank space of the next line
+-- a line break and the blank space of the next line
 pub break_over : (layout : Layout) (p : Place) → CanBreak p
     → (empty : Bool) (depth : ℕ) (line : Line) (opened : List Line) (r : List ℕ)
     → Aligned outside (blank (indentation layout depth)) opened r

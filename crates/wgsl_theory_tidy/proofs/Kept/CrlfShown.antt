@@ -1,5 +1,5 @@
 -- Pieces with CR LF in place of each LF are formatted as before: a block comment is written without
--- CR before LF, and no other piece has a line end.
+-- CR before LF, and no other piece has a line break.
 use Rattle.std.proofs.Common.{◌≡◌, ℕ, zero, suc, ◌==◌, ◌&&◌, ◌||◌, not, Bool, true, false, cond, if◌then◌else◌, refl, sym, ap, subst, ◌∙◌, List, [], ◌∷◌, ◌++◌, map}
 use Rattle.std.proofs.lemmas.Bool.{eqb-true}
 use Rattle.wgsl_model.specs.Tokens.ClassTable.{BlockComment}
@@ -39,7 +39,7 @@ abbrev pub AllSame : List Piece → Type 0
 AllSame [] = Unit {0}
 AllSame (p ∷ ps) = IsSame p × AllSame ps
 
--- one without line ends, and a block comment
+-- one without line breaks, and a block comment
 pub same_without : (p : Piece) → with_crlf p.text ≡ p.text → IsSame p
 same_without p e front begins =
     ap (λ (text : List ℕ). shown front begins (record { class = p.class; text = text; line_ends = p.line_ends })) e

@@ -37,7 +37,7 @@ pub fits_within : (layout : Layout) (n : ℕ) (text : List ℕ) → line_fits la
 fits_within layout n [] h = h
 fits_within layout n (c ∷ cs) h = within_step layout n c cs (c == 10) (fits_within layout (n + columns layout c) cs) h
 
--- after a part without a line end
+-- after a part without a line break
 pub fits_on : (layout : Layout) (n : ℕ) (xs ys : List ℕ) → HasNoLineEnd xs
     → line_fits layout n (xs ++ ys) ≡ line_fits layout (column_after layout n xs) ys
 fits_on layout n [] ys h = refl

@@ -1,4 +1,4 @@
--- The gap for as many line ends as a gap has is that gap.
+-- The gap for as many line breaks as a gap has is that gap.
 use Rattle.std.proofs.Common.{◌≡◌, ℕ, zero, suc, ◌&&◌, ◌||◌, ◌==◌, Bool, true, false, cond, not, nat_lt, refl, sym, ap, ◌∙◌}
 use Rattle.std.proofs.lemmas.Bool.{and_parts, true≢false}
 use Rattle.wgsl_model.specs.Tokens.ClassTable.{LineComment}
@@ -10,7 +10,7 @@ use Rattle.wgsl_theory_tidy.proofs.Kept.Gaps.{gap_ends}
 use Rattle.wgsl_theory_tidy.proofs.Kept.Settled.{settled_enclosing}
 use Rattle.wgsl_theory_tidy.proofs.Kept.SettledJoints.{settled_joint, Settles, same, spaced, closed_up, token_settles, comment_settles, leading_same}
 
--- a line end at which an empty line can stay, or cannot
+-- a line break at which an empty line can stay, or cannot
 abbrev pub break_for : Bool → ℕ → ℕ → Gap
 break_for stays depth n = broken (nat_lt 1 n && stays) depth
 
@@ -23,7 +23,7 @@ break_again : (stays : Bool) (depth n : ℕ)
     → break_for stays depth (gap_ends (break_for stays depth n)) ≡ break_for stays depth n
 break_again stays depth n = break_ends stays depth (nat_lt 1 n && stays) n refl
 
--- at least one line end
+-- at least one line break
 some_ends : (empty : Bool) (depth : ℕ) (break other : Gap)
     → kept_gap (gap_ends (broken empty depth)) break other ≡ break
 some_ends true depth break other = refl
@@ -37,7 +37,7 @@ kept_again stays depth (suc n) other h =
     some_ends (nat_lt 1 (suc n) && stays) depth (break_for stays depth
     (gap_ends (break_for stays depth (suc n)))) other ∙ break_again stays depth (suc n)
 
--- a gap with a line end has one again, whatever is there else
+-- a gap with a line break has one again, whatever is there else
 broken_again : (stays : Bool) (depth n : ℕ) (other : Gap) → kept_gap (gap_ends (break_for stays depth n))
     (break_for stays depth (gap_ends (break_for stays depth n))) other ≡ break_for stays depth n
 broken_again stays depth n other = some_ends (nat_lt 1 n && stays) depth

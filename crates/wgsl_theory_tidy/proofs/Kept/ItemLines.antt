@@ -1,4 +1,4 @@
--- A bracket that is written item by item begins with a line end.
+-- A bracket that is written item by item begins with a line break.
 use Rattle.std.proofs.Common.{◌≡◌, ℕ, ◌&&◌, ◌==◌, Bool, true, false, cond, not, refl, sym, ap, ◌∙◌, List, [], ◌∷◌, ◌++◌}
 use Rattle.std.proofs.lemmas.Bool.{and_parts, and_from, or_left, not-true, true≢false}
 use Rattle.wgsl_model_tidy.specs.Pieces.{Piece}
@@ -149,7 +149,7 @@ first_gap spot p ps i e calm = go (is_comment p.class) refl
         (follows_so spot.state ps (several_comment p ps h e) (calm_comment p ps h all))
     go false h = before_token spot p ps i h
 
--- ---- so the formatted text of its pieces has a line end
+-- ---- so the formatted text of its pieces has a line break
 
 broken_ends : (gap : Gap) → IsBroken gap → not (gap_ends gap == 0) ≡ true
 broken_ends gap b = ap (λ g. not (gap_ends g == 0)) b.2 ∙ some_ends b.0 b.1
@@ -170,7 +170,7 @@ item_lines_again layout spot (p ∷ ps) i e calm =
     (or_left (breaks (after_ends p (gap_ends gap))) _
     (or_left (not (gap_ends gap == 0)) _ (broken_ends gap (first_gap spot p ps i e calm))))
 
--- and the text begins with a line end
+-- and the text begins with a line break
 broken_begins : (layout : Layout) (empty : Bool) (depth : ℕ) (rest : List ℕ)
     → (more : List ℕ) × (gap_text layout (broken empty depth) ++ rest ≡ 10 ∷ more)
 broken_begins layout true depth rest = (_, refl)

@@ -20,7 +20,7 @@ use Rattle.wgsl_theory_tidy.proofs.Kept.NeatPieces.{NeatAt, token_gap_neat, comm
 
 -- ---- one piece formatted
 
--- the spot after a token, and after a comment; the first token from there on does so
+-- the spot after a token, and after a comment, with the role of the first token from there on
 abbrev spot_after_token : Layout → Spot → ℕ → List ℕ → ℕ → List Piece → Spot
 spot_after_token layout spot class w n ps =
     let right = role_in spot.state class (operand_follows ps) in
@@ -128,7 +128,7 @@ token_next : (s : LayoutState) (class : ℕ) (w : List ℕ) (n : ℕ) (ps : List
     → is_comment class ≡ false → next_role s (piece class w n ∷ ps) ≡ role_in s class (operand_follows ps)
 token_next s class w n ps h = rw h refl
 
--- what is before a token that does so begins with the gap before the token, or with that before
+-- what is before a token of a role begins with the gap before the token, or with that before
 -- a comment and with the comment
 pub data TrailFront (layout : Layout) (spot : Spot) (cs : List Piece) (right : Role) (m : ℕ)
     (trivia : List ℕ) : Type 0 where

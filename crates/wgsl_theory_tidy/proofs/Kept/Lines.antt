@@ -1,5 +1,5 @@
 -- A laid-out text outside block comments: its lines end with LF and no white space before it, no
--- two one after the other are empty, and it ends with one line end.
+-- two one after the other are empty, and it ends with one line break.
 use Rattle.std.proofs.Common.{◌≡◌, ℕ, ◌==◌, Bool, true, false, cond, refl, sym, ap, subst, ◌∙◌, List, [], ◌∷◌, ◌++◌, map, append_assoc}
 use Rattle.std.proofs.lemmas.Bool.{eqb-true, false_from_ne_true, true≢false}
 use Rattle.grammar.specs.Tokens.{Token}
@@ -63,7 +63,7 @@ break_at text n front rest d e l o =
 lf_breaks : (text : List ℕ) → Neat outside start text → BreaksLinesByLF text
 lf_breaks text n front rest d e l o = (break_at text n front rest d e l o).0
 
--- a white character where a line may end is a line end
+-- a white character where a line may end is a line break
 blank_ends : (b : Before) (c : ℕ) → is_whitespace c ≡ true → may_end (then b c) ≡ true → c ≡ 10
 blank_ends b c = go (is_whitespace c) (c == 10) refl
   where
@@ -136,7 +136,7 @@ last_is_lf b d = go (is_whitespace d) (d == 10) refl
     go true false e m = absurd (true≢false (sym m))
     go false y e m = absurd (true≢false (sym m))
 
--- before it is no white space and no line end
+-- before it is no white space and no line break
 is_solid : (b : Before) → may_end b ≡ true → is_end (line_end_more b) ≡ true → b ≡ solid
 is_solid solid m i = refl
 is_solid one_end m i = absurd (true≢false (sym i))

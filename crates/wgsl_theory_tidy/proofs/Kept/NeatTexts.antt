@@ -14,11 +14,11 @@ use Rattle.wgsl_theory_tidy.proofs.Comments.{trimmed, OnLine}
 use Rattle.wgsl_theory_tidy.proofs.Levels.{IsIndent, no_indent, one_space, one_tab, indentation_indent}
 
 -- what comes before a character: nothing, a character that is not white, a space or the like, one
--- line end, or more
+-- line break, or more
 pub data Before : Type 0 where
   start solid space one_end more_ends : Before
 
--- after a line end
+-- after a line break
 abbrev pub line_end_more : Before → Before
 line_end_more one_end = more_ends
 line_end_more more_ends = more_ends
@@ -81,7 +81,7 @@ indentation_neat : (layout : Layout) (depth : ℕ) (b : Before) (r : List ℕ) �
     → Neat outside b (indentation layout depth ++ r)
 indentation_neat layout depth b r h = indent_neat (indentation layout depth) b r (indentation_indent layout depth) h
 
--- a line end, at the end of a line comment or outside
+-- a line break, at the end of a line comment or outside
 abbrev pub CanBreak : Place → Type 0
 CanBreak outside = Unit {0}
 CanBreak in_line = Unit {0}

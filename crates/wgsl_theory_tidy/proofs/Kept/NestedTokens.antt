@@ -16,7 +16,7 @@ pub data Effect : Type 0 where
   opens closes : Bool → Effect
   none : Effect
 
--- what a token of a class does; true stands for `(`, `[`, `)` and `]`
+-- what a token of a class does; true is for `(`, `[`, `)` and `]`
 abbrev pub effect : ℕ → Effect
 effect class =
     cond (is_among class (SymParenLeft ∷ SymBracketLeft ∷ [])) (opens true)
@@ -100,7 +100,7 @@ check : (n : Symbol) → run (written n) [] ≡ Some (left_open n)
 check unit = refl
 check n = refl
 
--- ---- it does so to what is open before
+-- ---- what it does to what is open before
 
 after_framed : (e : Effect) (a b ms : List Bool) → opened_after e a ≡ Some b → opened_after e (a ++ ms) ≡ Some (b ++ ms)
 after_framed (opens m) a b ms h = let same : m ∷ a ≡ b = cc in ap (λ x. Some (x ++ ms)) same

@@ -1,4 +1,4 @@
--- A bracket in one line has no line end where its pieces are formatted.
+-- A bracket in one line has no line break where its pieces are formatted.
 use Rattle.std.proofs.Common.{◌≡◌, ℕ, zero, suc, ◌&&◌, ◌||◌, ◌==◌, ◌++◌, Bool, true, false, cond, not, refl, sym, ap, subst, ◌∙◌, List, [], ◌∷◌}
 use Rattle.std.proofs.lemmas.Bool.{true≢false}
 use Rattle.wgsl_model.specs.Tokens.ClassTable.{LineComment, BlockComment}
@@ -153,7 +153,7 @@ goes_on_after class leading h = go (class == LineComment) (class == BlockComment
     go false true false e = refl
     go false false d e = refl
 
--- a bracket in one that has no line ends has none
+-- a bracket in one that has no line breaks has none
 style_flat : (layout : Layout) (inside : Enclosing) (class column : ℕ) (ps : List Piece) (in_one_line : List ℕ)
     → inside ≡ one_line → has_lines ps ≡ false
     → style_of layout inside class column ps in_one_line ≡ together

@@ -1,4 +1,4 @@
--- A bracket in lines of its own has a line end where its pieces are formatted: after its opening
+-- A bracket in lines of its own has a line break where its pieces are formatted: after its opening
 -- bracket, or after the comments after that.
 use Rattle.std.proofs.Common.{◌≡◌, ℕ, zero, suc, ◌&&◌, ◌||◌, ◌==◌, Bool, true, false, cond, not, refl, sym, ap, subst, ◌∙◌, List, [], ◌∷◌}
 use Rattle.std.proofs.lemmas.Bool.{and_parts, and_from, or_left, or_right, true≢false}

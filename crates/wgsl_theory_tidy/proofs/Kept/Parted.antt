@@ -35,7 +35,7 @@ broken_parts : (layout : Layout) (left : Role) (w : List ℕ) (empty : Bool) (de
 broken_parts layout left w true depth more p = p.line_end
 broken_parts layout left w false depth more p = p.line_end
 
--- a line end of the author's, or what is there else
+-- a line break of the author's, or what is there else
 kept_parts : (layout : Layout) (left : Role) (w : List ℕ) (n : ℕ) (empty : Bool) (depth : ℕ)
     (other : Gap) (more : List ℕ) → Parts left w → PartsBefore w (gap_text layout other ++ more)
     → PartsBefore w (gap_text layout (kept_gap n (broken empty depth) other) ++ more)
@@ -106,7 +106,7 @@ parts_before_token layout spot right n w v more e h s =
     (record { state = spot.state; last = last; column = spot.column }) right n) ++ (v ++ more)))
     (sym e) (token_parts layout spot.column spot.state right n w v more h s)
 
--- before a comment, where the next token does so
+-- before a comment, where the next token has a role
 pub parts_before_comment : (layout : Layout) (spot : Spot) (right : Role) (class : ℕ) (owned : Bool)
     (n : ℕ) (w more : List ℕ) → spot.last ≡ token → Shaped spot.state.last w
     → PartsBefore w (gap_text layout (gap_before_comment spot right class owned n) ++ (47 ∷ more))

@@ -12,7 +12,7 @@ use Rattle.wgsl_model_tidy.specs.LaidOut.{Gap, broken, Last, token, line_comment
 use Rattle.wgsl_theory_tidy.proofs.Kept.Gaps.{gap_ends}
 use Rattle.wgsl_theory_tidy.proofs.Kept.Relaid.{style_first, after_first, relaid}
 
--- a line end is there
+-- a line break is there
 broken_some : (empty : Bool) (depth : ℕ) → gap_ends (broken empty depth) ≡ 0 → ⊥
 broken_some true depth e = absurd cc
 broken_some false depth e = absurd cc

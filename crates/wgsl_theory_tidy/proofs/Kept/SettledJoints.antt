@@ -8,7 +8,7 @@ use Rattle.wgsl_model_tidy.specs.Open.{Enclosing, no_bracket, one_line, own_line
 use Rattle.wgsl_model_tidy.specs.LaidOut.{is_line, closes_up, loose_joint, after_comment, after_leading}
 use Rattle.wgsl_theory_tidy.proofs.Kept.Settled.{settled_enclosing}
 
--- between two tokens: the same, or a line end that may be there
+-- between two tokens: the same, or a line break that may be there
 pub data Loosens (right : Role) : Joint → Joint → Type 0 where
   same_joint : (j : Joint) → Loosens right j j
   loosened : closes_bracket right ≡ false → Loosens right line space_or_line
@@ -42,7 +42,7 @@ pub line_before : (right : Role) (j k : Joint) → Loosens right j k → is_line
 line_before right _ _ (same_joint j) e = e
 line_before right _ _ (loosened h) e = absurd (true≢false (sym e))
 
--- ---- the same, or a line end that may be there, after comments too
+-- ---- the same, or a line break that may be there, after comments too
 
 pub data Settles : Joint → Joint → Type 0 where
   same : (j : Joint) → Settles j j

@@ -27,7 +27,7 @@ use Rattle.wgsl_theory_grammar.proofs.Tokens.Symbols.{each_passes, found_passes}
 use Rattle.wgsl_theory_tidy.proofs.Kept.Touching as touching
 use Rattle.wgsl_theory_tidy.proofs.Kept.Touching.{Shaped, starts, is_name, is_else, is_arrow, is_unsuffixed, is_number, is_opening, is_closing, is_comma, is_at, is_less, is_minus, is_and, is_bang, is_star, is_tilde, is_plus_plus, is_minus_minus, is_period, is_other}
 
--- a token that does so begins with the first of these characters
+-- a token of a role begins with the first of these characters
 abbrev pub Starts : Role → List ℕ → Type 0
 Starts role [] = ⊥
 Starts role (x ∷ xs) = starts role x ≡ true

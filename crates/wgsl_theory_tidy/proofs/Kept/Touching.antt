@@ -97,7 +97,7 @@ after_name x xs b step d h s = at_two (EndsAt (x ∷ xs)) d 43 45 s (name_ends x
     (name_ends x xs 45 b minus_ends)
 after_name x xs b right d h s = absurd (true≢false (sym h))
 
--- another word: what is closed up after it does so after a name
+-- another word: what is closed up after it is closed up after a name
 word_is_closed_up : (right : Role) → closed_up word right ≡ true → closed_up name right ≡ true
 word_is_closed_up comma h = refl
 word_is_closed_up semicolon h = refl
@@ -309,7 +309,7 @@ is_tight_only item_end = true
 is_tight_only attribute = true
 is_tight_only role = false
 
--- after one of these is closed up only what does so after a token of any kind
+-- after one of these is closed up only what is closed up after a token of any kind
 pub tight_only : (left right : Role) → is_tight_only left ≡ true → closed_up left right ≡ true
     → closed_up attribute right ≡ true
 tight_only attribute right t h = h
@@ -325,7 +325,7 @@ tight_only colon right t h = absurd (true≢false (sym h))
 tight_only item_end right t h = absurd (true≢false (sym h))
 tight_only left right t h = absurd (true≢false (sym t))
 
--- the characters of a token that does so; the `>` of a template list is none, since whatever token
+-- the characters of a token of a role; the `>` of a template list is none, since whatever token
 -- it begins, it ends the list
 pub data Shaped : Role → List ℕ → Type 0 where
   is_name : (x : ℕ) (xs : List ℕ) → begins_name x ≡ true → Shaped name (x ∷ xs)

@@ -1,5 +1,4 @@
--- What each rule derives is derived wherever the tokens stand; written by
--- tools/tables/rule_terms.py.
+-- What each rule derives is derived wherever the tokens are; written by tools/tables/rule_terms.py.
 use Rattle.wgsl_model.specs.Trees.Expressions as expression_trees
 use Rattle.wgsl_model.specs.Trees.Operators as operator_trees
 use Rattle.wgsl_model.specs.Trees.Statements as statement_trees

@@ -1,5 +1,4 @@
--- What holds before each turn: what was put into the list and what is left may stand in place of
--- the whole.
+-- What holds before each turn: what was put into the list and what is left may replace the whole.
 use Rattle.std.proofs.Common.{◌++◌, length}
 use Rattle.wgsl_lex_token.specs.View.{classes}
 use Rattle.wgsl_lex_templates.specs.Shortened.{MayReplace}
