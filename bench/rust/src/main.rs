@@ -21,7 +21,7 @@ bench/rust/Cargo.toml and a line for each of its calls to MEASURED in bench/rust
     (\"other parse\", |text| black_box(other::parse(text)).is_ok()),
 ";
 
-/// What is measured: its name, and what is done with a text, which answers whether it was
+/// What is measured: its name, and the call for a text, which returns whether it was
 /// accepted.
 type Measured = (&'static str, fn(&str) -> bool);
 
@@ -136,7 +136,7 @@ fn measure(file: &str, text: &str, runs: usize) {
     }
 }
 
-/// Measures a file, and tells whether it could be read and is a module.
+/// Measures a file, and returns whether it could be read and is a module.
 fn measure_file(file: &str, runs: usize) -> bool {
     let text = match std::fs::read_to_string(file) {
         Ok(text) => text,
