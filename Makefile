@@ -9,15 +9,15 @@ libraries = $(DESTDIR)$(PREFIX)/lib
 .PHONY: help demo build lib tables test programs install uninstall dist clean
 
 help:
-	@echo "make demo       lays a shader out with wgsltidy and prints it with wgslfmt, without any proof"
-	@echo "make build      proves wgsltidy, wgslfmt and what they stand on, and leaves them in build/"
-	@echo "make lib        proves the library for C and Rust, and leaves it at build/libwgsl.a"
-	@echo "make install    puts the two, their man pages, and the library if it is built, below PREFIX,"
-	@echo "                which is $(PREFIX)"
+	@echo "make demo       formats a shader with wgsltidy, and prints it with wgslfmt, without proofs"
+	@echo "make build      proves wgsltidy, wgslfmt and what they depend on, and puts them into build/"
+	@echo "make lib        proves the library for C and Rust, build/libwgsl.a"
+	@echo "make install    installs the programs, their man pages, and the library if it is built, below"
+	@echo "                PREFIX, which is $(PREFIX)"
 	@echo "make uninstall  removes them"
 	@echo "make dist       packs what is built into an archive in build/ that needs no prover"
 	@echo "make tables     writes again what tools write from the definitions"
-	@echo "make test       runs everything: proofs, edits that must be refused, tests, programs"
+	@echo "make test       runs everything: proofs, wrong bodies, tests, programs"
 	@echo "make clean      removes build/ and what rt keeps in crates/*/out"
 
 demo:
@@ -26,7 +26,7 @@ demo:
 	    { said=$$(cd crates/$$program && rt try < ../../examples/commented/waves.wgsl 2>&1 >&3); } 3>&1 \
 	        || { echo "$$said" >&2; exit 1; }; \
 	done
-	@echo "These were the programs unproved: \`make build\` proves them."
+	@echo "These programs are not proved; \`make build\` proves them."
 
 build:
 	@tools/build

@@ -4,7 +4,7 @@
 pub const HELP: &str = "\
 Usage: wgsltidy [OPTIONS] [FILE | FOLDER]...
 
-Formats WGSL modules. Each file is formatted in place, and of each folder all files that end
+Formats WGSL modules. Each file is formatted in place, and in each folder all files whose names end
 with .wgsl. With no file, or with -, the standard input is formatted to the standard output.
 
 Options:
@@ -17,13 +17,13 @@ Options:
   --newlines KIND    end lines with lf, crlf, or as the first one of the text (auto)
   --help             print this text
   --version          print the version
-  --                 what follows is a file or a folder
+  --                 the arguments that follow are files and folders
 
-What these leave open of the layout is as the nearest .editorconfig file says.
+What no option chooses, the nearest .editorconfig file chooses.
 
-Status: 0 success, 1 a file would change, 2 wrong usage, 3 a file has an error or is not UTF-8,
-4 a file could not be read or written, 5 out of memory. Without files and options the statuses are
-others: see man wgsltidy.
+Status: 0 success, 1 a file would change, 2 wrong arguments, 3 a file has an error or is not UTF-8,
+4 a file could not be read or written, 5 out of memory. Without files and options the program is a
+filter with other statuses: see man wgsltidy.
 ";
 
 /// The name and the version of the program.
