@@ -1,5 +1,5 @@
 #!/usr/bin/env python3
-"""Writes what follows from the fields of the nodes alone: the tables of docs/TREE.md, the types and
+"""Writes what follows from the fields of the nodes alone: the lists of docs/TREE.md, the types and
 the lists of nodes of the Rust crate, for its tests a text with the example of each variant and what
 prints are read as, the variants that tools/library_kinds.c looks for, and the copies of what
 variants hold that wgsl_test_memory makes.
@@ -39,24 +39,24 @@ def fill(path, begin, text, end):
     path.write_text(old[:at] + text + old[old.index(end, at):])
 
 
-def rows(heading, columns, kinds, shown):
-    """A table of a document with the parts of each kind, as they are shown."""
-    lines = [f"### {heading}", "", f"| {columns[0]} | {columns[1]} |", "|---|---|"]
+def listed(heading, kinds, shown):
+    """A section of a document with the parts of each kind, as they are shown."""
+    lines = [f"### {heading}", ""]
     for kind in kinds:
-        parts = [f"`{shown(*part)}`".replace("|", "\\|") for part in kind.parts]
-        lines.append(f"| `{kind.name}` | {(' ' if kind.form == 'words' else ', ').join(parts)} |")
+        parts = [f"`{shown(*part)}`" for part in kind.parts]
+        lines.append(f"- `{kind.name}`: {(' ' if kind.form == 'words' else ', ').join(parts)}")
     return "\n".join([*lines, "", ""])
 
 
 def document(table):
-    """The tables of the document."""
+    """The lists of the document."""
     def field(name, held):
         return table.field(name, held).replace("Vec<Spanned<Attribute>>", "Attributes")
 
     return ("\n\n"
-            + rows("Enums", ("Enum", "Variants"), table.of_form("enum"), table.variant)
-            + rows("Structs", ("Struct", "Fields"), table.of_form("struct"), field)
-            + rows("Words", ("Enum", "Words"), table.of_form("words"), lambda name, word: word))
+            + listed("Enums and their variants", table.of_form("enum"), table.variant)
+            + listed("Structs and their fields", table.of_form("struct"), field)
+            + listed("Enums of words", table.of_form("words"), lambda name, word: word))
 
 
 def field_doc(table, kind, name, held):
@@ -281,8 +281,8 @@ def write_copies(table):
 def main():
     table = Table()
     check(table)
-    fill(DOCUMENT, f"<!-- The tables are {WRITTEN} -->", document(table),
-         "<!-- The end of the tables. -->")
+    fill(DOCUMENT, f"<!-- The lists are {WRITTEN} -->", document(table),
+         "<!-- The end of the lists. -->")
     write_rust(table)
     write_text(table)
     write_variants(table)
