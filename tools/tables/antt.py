@@ -225,7 +225,7 @@ class Module:
 
 
 def same(left, right):
-    """Whether two terms are the same, modules of names aside."""
+    """Whether two terms are the same, ignoring the modules of names."""
     if isinstance(left, tuple) and isinstance(right, tuple):
         if left[:1] == right[:1] == ("name",):
             return last(left[1]) == last(right[1])

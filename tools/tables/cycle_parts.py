@@ -104,7 +104,7 @@ class Cycle:
 
     def seen(self, held, place):
         """A value of a type as plain data, with a list and an optional part of the cycle as lists
-        and options are; such a list is no vector."""
+        and options are; such a list is not a vector."""
         part = Part("", held)
         if held == "Attribute*":
             return f"attributes_view {place}.items"
@@ -135,7 +135,7 @@ class Cycle:
         return f"with_attributes {given['attributes']} ({tree})" if is_apart(kind) else tree
 
     def type(self, held):
-        """A type as the definitions write it; a list of the cycle is no vector."""
+        """A type as the definitions write it; a list of the cycle is not a vector."""
         part = Part("", held)
         item = f"Spanned {part.item}" if self.table.by_name[part.item].is_spanned else part.item
         bracketed = f"({item})" if " " in item else item

@@ -1,9 +1,9 @@
 #!/usr/bin/env python3
 """Writes the rules of the languages that are recognised, each in the form in which one token
 decides, as steps over tokens: the language that is parsed, without its checks, and the smaller one
-of `recognize_str`. The rules that are the same in both stand once.
+of `recognize_str`. The rules that are the same in both are written once.
 
-Run it at the top of the repository, and lay out what it wrote by `rt fmt`:
+Run it at the top of the repository, and format what it wrote with `rt fmt`:
 
     tools/tables/dialect.py crates/wgsl_read_dialect
 
@@ -83,7 +83,7 @@ def reached(found, start):
     return seen
 
 
-# the symbol in whose steps stand those of each symbol in it: the statements that end with a block
+# the symbol whose steps include those of each symbol in it: the statements that end with a block
 OPENED = ("further", "braced_part")
 
 
@@ -247,7 +247,7 @@ def in_parts(order, needed):
 
 
 class Writer:
-    """Writes the rules; sets of more than two classes that stand in several places get a name."""
+    """Writes the rules; sets of more than two classes that are in several places get a name."""
 
     def __init__(self, found, parts, empty):
         self.found = found

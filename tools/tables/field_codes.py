@@ -20,8 +20,8 @@ def sources(table):
 
 
 def seen(table, held):
-    """The functions that give the code and the plain data of a type that is no list and is not left
-    out, and the modules of what they name."""
+    """The functions that give the code and the plain data of a type that is not a list and is not
+    left out, and the modules of what they name."""
     if held in TEXTS:
         name, module = TEXTS[held]
         return "text", name, [(module, name), (f"{CODES}.Code", "text")]

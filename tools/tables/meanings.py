@@ -3,7 +3,7 @@
 
 Run it at the top of the repository: tools/tables/meanings.py
 
-What stands after the attributes in a factored rule means what does so in the written rule. What
+What is after the attributes in a factored rule means what is after them in the written rule. What
 is made of further symbols means the same of what these mean. The others are in Meaning.antt.
 """
 import re
@@ -93,7 +93,7 @@ def imports(body, paths):
     files = [antt.Module(path) for path in paths]
     further = set(bodies(FACTORED, "FurtherValue"))
     own = set(re.findall(r"^abbrev pub (\w+)", body, re.M))
-    # what a λ binds is no name of the factored grammar
+    # what a λ binds is not a name of the factored grammar
     bound = {name for it in re.findall(r"λ ([^.]*)\.", body) for name in re.findall(r"\w+", it)}
     own |= bound & (further | set(files[0].clauses))
     used = {}

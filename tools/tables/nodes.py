@@ -155,7 +155,7 @@ def visited(table):
 
 
 def unvisited(table):
-    """What nodes hold that is no node."""
+    """What nodes hold that is not a node."""
     names = {"", "Ident", *(kind.name for kind in nodes(table))}
     held = dict.fromkeys(held.rstrip("?*") for kind in nodes(table) for _, held in kind.parts)
     return "\n".join(f"    {table.rust(it)}," for it in held if it not in names)
@@ -257,7 +257,7 @@ def write_variants(table):
 
 
 def copied(table, kind):
-    """The function that copies what variants of an enum hold, where that is no node with a span."""
+    """The function that copies what variants of an enum hold that is not a node with a span."""
     nodes_held = [it.name for it in nodes(table) if not it.is_spanned]
     held = [name for name, held in kind.parts if held in nodes_held]
     arms = [f"        {kind.name}::{name}(inner) => line.copy(inner)," for name in held]

@@ -47,7 +47,7 @@ def of_several(table, held):
 
 
 def variables(kind):
-    """The parts of a struct by names that are no constructors, with the types of their fields."""
+    """The parts of a struct by names that are not constructors, with the types of their fields."""
     taken = {made.split()[0] for made in CONSTRUCTED.values()}
     return {f"its_{name}" if name in taken else name: held for name, held in parts_of(kind).items()}
 

@@ -76,7 +76,7 @@ class Space:
 
 
 class Line:
-    """A line end and an indentation."""
+    """A line break and an indentation."""
 
     def pieces(self, level, rest):
         """Its pieces."""

@@ -28,7 +28,7 @@ class Form:
     # terms of premises, by predicate; a premise with the lemma that gives it
     premises: dict = field(default_factory=dict)
     given: tuple = ("", "")
-    # the words that premises begin with, if not the predicates; names that stand for others
+    # the words that premises begin with, if not the predicates; names that replace others
     words: tuple = ()
     known: dict = field(default_factory=dict)
     # whether the predicates are of values, and not relations of them

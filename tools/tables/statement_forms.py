@@ -6,8 +6,8 @@ Run it at the top of the repository, and `rt fmt` in crates/wgsl_tree_form after
 
     tools/tables/statement_forms.py
 
-It reads crates/wgsl_model/nodes. What a statement holds that is no statement has a writer that
-tools/tables/tree_forms.py writes.
+It reads crates/wgsl_model/nodes. What a statement holds that is not a statement has a writer
+that tools/tables/tree_forms.py writes.
 """
 from form_answers import answers_text, found_in, list_codes
 from node_table import TABLE, Table, snake

@@ -6,7 +6,7 @@ Run it at the top of the repository, and `rt fmt` in crates/wgsl_form_trees afte
 
     tools/tables/statement_readers.py
 
-It reads crates/wgsl_model/nodes. What a statement holds that is no statement has a `read_form`.
+It reads crates/wgsl_model/nodes. What a statement holds that is not a statement has a `read_form`.
 """
 from form_answers import (HERE, answer, answers_text, argument, found_in, list_codes,
                           read, struct_fields)

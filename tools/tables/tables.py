@@ -220,7 +220,7 @@ class Rules:
     def symbol(tree):
         return ("of", tree[1]) if tree[0] == "name" else (tree[1][1], tree[2][0][1])
 
-    # the words of the notation that are no definitions of the grammar
+    # the words of the notation that are not definitions of the grammar
     notation_empty = staticmethod(lambda value: EMPTY)
     notation_token = staticmethod(token)
     notation_one_token = staticmethod(lambda c: token([c]))

@@ -72,7 +72,7 @@ class Pieces:
         return held or self.applied(*term[1:]) if term[0] == "app" else held
 
     def texts(self, text):
-        """The parts of a text of signs, spaces and line ends."""
+        """The parts of a text of signs, spaces and line breaks."""
         parts = [Line() if it == "\\n" else Space() if it == " " else Sign(it, self.signs[it])
                  for it in TEXT.findall(text)]
         return Row(tuple(parts)) if len(parts) > 1 else parts[0]
@@ -186,7 +186,7 @@ def lemma(pieces, function):
 
 
 def list_lemmas(pieces, function):
-    """The lemmas that pieces print a list of texts, four spaces in and each after a line end."""
+    """The lemmas that pieces print a list of texts, four spaces in and each after a line break."""
     stem, kind = pieces.stems[function], pieces.printed.types[function]
     first, further = f"first_{stem}", f"further_{stem}"
     texts = (f'(indented (joined (codes "\\n") ({function} s)))',

@@ -200,7 +200,7 @@ def variant_parts(readers, kind, name, held):
 
 
 def table_of(entries):
-    """What stands for each name."""
+    """The value for each name."""
     return "".join(f'(codes "{name}", λ _. {right}) ∷ ' for name, right in entries) + "[]"
 
 

@@ -117,7 +117,7 @@ def bodies(items, front):
 def exports(module):
     """The names of a module that others may use."""
     text = source(Path(f"crates/{module}.antt"))
-    # the fields of a record are no names of the module
+    # the fields of a record are not names of the module
     text = re.sub(r"^(pub record .*\n)(?:  .*\n)+", r"\1", text, flags=re.M)
     return set(STATED.findall(text)) | set(CONSTRUCTORS.findall(text))
 

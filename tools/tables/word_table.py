@@ -1,6 +1,6 @@
 #!/usr/bin/env python3
 """Writes the table of keywords and reserved words of the scanner, with their number, and the two
-tables of bytes that lead from a word to the only place in it where the word can stand.
+tables of bytes that lead from a word to the only place in it where the word can be.
 
 Run it at the top of the repository, and then `rt fmt` in crates/wgsl_lex_scanner:
 
