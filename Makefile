@@ -42,7 +42,7 @@ tables:
 # to be in the layout of rt fmt, and no line of a definition or a proof may be too long; what tools
 # write has to be up to date, and the table of nodes to have the types of the library; each wrong
 # body has to be one that can be applied; each crate has to pass rt ci, and each wrong body has to
-# be refused. Beside the last of the wrong bodies, make programs runs: each shader of examples/ has
+# be rejected. Beside the last of the wrong bodies, make programs runs: each shader of examples/ has
 # to print as its file in examples/printed/, and that file as itself; the crates that hold tests
 # alone are run; so are the built programs, on made texts and on deep nests, and wgsltidy on its
 # rows and on real files; each allocation of each call, of both programs as filters and of wgsltidy

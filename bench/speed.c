@@ -9,12 +9,12 @@
 
 #include "wgsl.h"
 
-/* A text, and the room for what a call gives. */
+/* A text, and the buffer for what a call writes. */
 struct given {
     char *text;
     size_t size;
-    void *room;
-    size_t room_size;
+    void *buffer;
+    size_t buffer_size;
     struct wgsl_answer answer;
 };
 
@@ -26,18 +26,18 @@ static uint32_t count_ends(struct given *it) {
 }
 
 static uint32_t give_lists(struct given *it) {
-    return wgsl_template_lists(it->text, it->size, it->room, it->room_size, &it->answer);
+    return wgsl_template_lists(it->text, it->size, it->buffer, it->buffer_size, &it->answer);
 }
 
 static uint32_t check(struct given *it) {
-    return wgsl_check(it->text, it->size, it->room, it->room_size, &it->answer);
+    return wgsl_check(it->text, it->size, it->buffer, it->buffer_size, &it->answer);
 }
 
 static uint32_t format(struct given *it) {
-    return wgsl_format(it->text, it->size, it->room, it->room_size, &it->answer);
+    return wgsl_format(it->text, it->size, it->buffer, it->buffer_size, &it->answer);
 }
 
-/* What is measured: its name, its call, and the bytes of an item that it gives. */
+/* What is measured: its name, its call, and the bytes of an item that it writes. */
 static const struct measured {
     const char *name;
     uint32_t (*call)(struct given *);
@@ -60,25 +60,25 @@ static const struct measured *named(const char *name) {
 
 /* Reads the standard input; returns whether there was memory for it. */
 static int read_text(struct given *it) {
-    size_t room = 0, count = 1;
+    size_t capacity = 0, count = 1;
     while (count > 0) {
-        if (it->size == room) {
-            char *grown = realloc(it->text, room = 2 * room + 4096);
+        if (it->size == capacity) {
+            char *grown = realloc(it->text, capacity = 2 * capacity + 4096);
             if (grown == NULL) return 0;
             it->text = grown;
         }
-        count = fread(it->text + it->size, 1, room - it->size, stdin);
+        count = fread(it->text + it->size, 1, capacity - it->size, stdin);
         it->size += count;
     }
     return 1;
 }
 
-/* Makes room for what a call gives of the text; returns whether there was memory for it. */
-static int make_room(const struct measured *what, struct given *it) {
+/* Allocates the buffer for what a call writes of the text; returns whether there was memory. */
+static int make_buffer(const struct measured *what, struct given *it) {
     what->call(it);
-    it->room = malloc(it->answer.size * what->item + 1);
-    it->room_size = it->answer.size;
-    return it->room != NULL;
+    it->buffer = malloc(it->answer.size * what->item + 1);
+    it->buffer_size = it->answer.size;
+    return it->buffer != NULL;
 }
 
 static double seconds(void) {
@@ -87,7 +87,7 @@ static double seconds(void) {
     return (double)now.tv_sec + (double)now.tv_nsec / 1e9;
 }
 
-/* The seconds that so many calls take; less than 0 where the text was refused. */
+/* The seconds that `turns` calls take; less than 0 where the text was rejected. */
 static double measure(const struct measured *what, struct given *it, long turns) {
     double start = seconds();
     for (; turns > 0; turns--) {
@@ -105,7 +105,7 @@ int main(int count, char **words) {
         fprintf(stderr, "usage: speed bytes|lists|check|format TURNS < TEXT\n");
         return 5;
     }
-    if (!read_text(&it) || !make_room(what, &it)) {
+    if (!read_text(&it) || !make_buffer(what, &it)) {
         fprintf(stderr, "out of memory\n");
         return 3;
     }

@@ -12,6 +12,6 @@ def is_there():
     """Whether there is a cargo that takes the crate."""
     if not shutil.which("cargo"):
         return False
-    told = subprocess.run(["cargo", "--version"], capture_output=True, text=True).stdout
-    version = re.match(r"cargo (\d+)\.(\d+)", told)
+    printed = subprocess.run(["cargo", "--version"], capture_output=True, text=True).stdout
+    version = re.match(r"cargo (\d+)\.(\d+)", printed)
     return version is not None and tuple(map(int, version.groups())) >= NEW_ENOUGH

@@ -13,7 +13,7 @@ DONE, REFUSED, TOO_SMALL = 0, 1, 4
 # the kinds of trees that a text is read as, and of some that are printed, by their numbers
 TREES = ("unit", "directive", "declaration", "statement", "expression")
 PRINTED = (*TREES, "attribute")
-# the kinds of faults that tell what was expected
+# the kinds of faults that say what was expected
 EXPECTING = (3, 4)
 
 
@@ -59,23 +59,23 @@ class Library:
     def __init__(self):
         self.calls = ctypes.CDLL(str(SHARED))
 
-    def call(self, name, text, *kind, room=0, item=ctypes.c_char):
-        """What a call returns: its status, its answer, and its room, with so many items."""
-        answer, place = Answer(), (item * max(room, 1))()
+    def call(self, name, text, *kind, capacity=0, item=ctypes.c_char):
+        """What a call returns: its status, its answer, and its buffer, which has this capacity."""
+        answer, place = Answer(), (item * max(capacity, 1))()
         words = [ctypes.c_uint32(it) for it in kind] + [text, ctypes.c_size_t(len(text))]
-        words += [place, ctypes.c_size_t(room), ctypes.byref(answer)]
+        words += [place, ctypes.c_size_t(capacity), ctypes.byref(answer)]
         return getattr(self.calls, f"wgsl_c_{name}")(*words), answer, place
 
-    def fill(self, name, text, *kind, room, item=ctypes.c_char):
-        """What a call returns with room enough for what it has to give."""
-        status, answer, place = self.call(name, text, *kind, room=room, item=item)
-        if answer.size > room:
-            return self.fill(name, text, *kind, room=answer.size, item=item)
+    def fill(self, name, text, *kind, capacity, item=ctypes.c_char):
+        """What a call returns with a buffer that is large enough for its result."""
+        status, answer, place = self.call(name, text, *kind, capacity=capacity, item=item)
+        if answer.size > capacity:
+            return self.fill(name, text, *kind, capacity=answer.size, item=item)
         return status, answer, place
 
     def text(self, name, text, *kind):
-        """The text that a call gives. A text that it refuses raises Refused."""
-        status, answer, place = self.fill(name, text, *kind, room=3 * len(text) + 256)
+        """The text that a call returns. A text that it rejects raises Refused."""
+        status, answer, place = self.fill(name, text, *kind, capacity=3 * len(text) + 256)
         given = place.raw[: answer.size]
         if status == REFUSED:
             message, *expected = given.decode().split("\0")[: answer.expected + 1]
@@ -108,14 +108,14 @@ class Library:
     def tokens(self, text):
         """The kind, the start and the end of each token, and the fault that ends them, if any."""
         item = ctypes.c_size_t * 3
-        status, answer, place = self.fill("tokens", text, room=len(text) + 1, item=item)
+        status, answer, place = self.fill("tokens", text, capacity=len(text) + 1, item=item)
         fault = Fault(answer.kind, answer.start, answer.end) if status == REFUSED else None
         return [tuple(it) for it in place[: answer.size]], fault
 
     def lists(self, text):
         """The start and the end of each template list."""
         item = ctypes.c_size_t * 2
-        _, answer, place = self.fill("lists", text, room=len(text) + 1, item=item)
+        _, answer, place = self.fill("lists", text, capacity=len(text) + 1, item=item)
         return [tuple(it) for it in place[: answer.size]]
 
     def number(self, name, text):

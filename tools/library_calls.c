@@ -22,52 +22,52 @@ static int is_size(size_t size) { return is_answer(size, 0, 0, 0, 0); }
 /* The calls that read a text and write bytes. */
 typedef uint32_t text_call(const char *, size_t, char *, size_t, struct wgsl_answer *);
 
-static uint32_t tree(const char *text, size_t size, char *room, size_t room_size,
+static uint32_t tree(const char *text, size_t size, char *buffer, size_t buffer_size,
                      struct wgsl_answer *said) {
-    return wgsl_tree(WGSL_UNIT, text, size, room, room_size, said);
+    return wgsl_tree(WGSL_UNIT, text, size, buffer, buffer_size, said);
 }
 
-static uint32_t tidy(const char *text, size_t size, char *room, size_t room_size,
+static uint32_t tidy(const char *text, size_t size, char *buffer, size_t buffer_size,
                      struct wgsl_answer *said) {
-    return wgsl_tidy(NULL, text, size, room, room_size, said);
+    return wgsl_tidy(NULL, text, size, buffer, buffer_size, said);
 }
 
 static text_call *const text_calls[] = {wgsl_format, tidy, wgsl_check, wgsl_recognize, tree};
 
 /* Returns whether a buffer is as it was filled: with one byte again and again. */
-static int is_filled(const char *room, size_t size) {
-    while (size > 0 && room[size - 1] == '#') size--;
+static int is_filled(const char *buffer, size_t size) {
+    while (size > 0 && buffer[size - 1] == '#') size--;
     return size == 0;
 }
 
-/* Checks what each of them returns of arguments that are not memory, and of bytes that are no
+/* Checks what each of them returns for arguments that are not memory, and for bytes that are not
  * text. */
 static int check_text_calls(void) {
-    char room[256];
+    char buffer[256];
     size_t at;
     for (at = 0; at < sizeof text_calls / sizeof *text_calls; at++) {
         text_call *call = text_calls[at];
-        memset(room, '#', sizeof room);
-        CHECK(call(NULL, 1, room, sizeof room, &answer) == WGSL_BAD_ARGUMENT);
-        CHECK(call("", SIZE_MAX, room, sizeof room, &answer) == WGSL_BAD_ARGUMENT);
+        memset(buffer, '#', sizeof buffer);
+        CHECK(call(NULL, 1, buffer, sizeof buffer, &answer) == WGSL_BAD_ARGUMENT);
+        CHECK(call("", SIZE_MAX, buffer, sizeof buffer, &answer) == WGSL_BAD_ARGUMENT);
         CHECK(call("", 0, NULL, 1, &answer) == WGSL_BAD_ARGUMENT);
-        CHECK(call("", 0, room, WGSL_GREATEST + 1, &answer) == WGSL_BAD_ARGUMENT);
-        CHECK(call("", 0, room, sizeof room, NULL) == WGSL_BAD_ARGUMENT);
-        CHECK(call(";//\xff", 4, room, sizeof room, &answer) == WGSL_NOT_UTF8);
-        CHECK(is_answer(0, 3, 3, 0, 0) && is_filled(room, sizeof room));
+        CHECK(call("", 0, buffer, WGSL_GREATEST + 1, &answer) == WGSL_BAD_ARGUMENT);
+        CHECK(call("", 0, buffer, sizeof buffer, NULL) == WGSL_BAD_ARGUMENT);
+        CHECK(call(";//\xff", 4, buffer, sizeof buffer, &answer) == WGSL_NOT_UTF8);
+        CHECK(is_answer(0, 3, 3, 0, 0) && is_filled(buffer, sizeof buffer));
         CHECK(call("const", 5, NULL, 0, &answer) == WGSL_REFUSED);
         CHECK(answer.kind == WGSL_UNEXPECTED_END && answer.start == 5 && answer.end == 6);
-        CHECK(answer.expected > 0 && answer.size > 0 && answer.size <= sizeof room);
-        CHECK(call("const", 5, room, answer.size - 1, &answer) == WGSL_REFUSED);
-        CHECK(is_filled(room, sizeof room));
-        CHECK(call("const", 5, room, answer.size, &answer) == WGSL_REFUSED && room[0] == 'u');
-        CHECK(room[answer.size - 1] == 0);
-        CHECK(is_filled(room + answer.size, sizeof room - answer.size));
+        CHECK(answer.expected > 0 && answer.size > 0 && answer.size <= sizeof buffer);
+        CHECK(call("const", 5, buffer, answer.size - 1, &answer) == WGSL_REFUSED);
+        CHECK(is_filled(buffer, sizeof buffer));
+        CHECK(call("const", 5, buffer, answer.size, &answer) == WGSL_REFUSED && buffer[0] == 'u');
+        CHECK(buffer[answer.size - 1] == 0);
+        CHECK(is_filled(buffer + answer.size, sizeof buffer - answer.size));
     }
     return 0;
 }
 
-/* The same of the calls that write items, or nothing. */
+/* The same for the calls that write items, or nothing. */
 static int check_other_calls(void) {
     struct wgsl_token tokens[2];
     struct wgsl_place lists[2];
@@ -97,10 +97,10 @@ static int check_other_calls(void) {
 
 /* A text of no bytes, at null and elsewhere, is the empty module, which prints as a line break. */
 static int check_no_bytes(void) {
-    char room[1];
+    char buffer[1];
     CHECK(wgsl_format(NULL, 0, NULL, 0, &answer) == WGSL_TOO_SMALL && is_size(1));
-    CHECK(wgsl_format(NULL, 0, room, 1, &answer) == WGSL_DONE && is_size(1));
-    CHECK(wgsl_format("", 0, room, 1, &answer) == WGSL_DONE && room[0] == '\n');
+    CHECK(wgsl_format(NULL, 0, buffer, 1, &answer) == WGSL_DONE && is_size(1));
+    CHECK(wgsl_format("", 0, buffer, 1, &answer) == WGSL_DONE && buffer[0] == '\n');
     CHECK(wgsl_check(NULL, 0, NULL, 0, &answer) == WGSL_DONE);
     CHECK(wgsl_recognize(NULL, 0, NULL, 0, &answer) == WGSL_DONE);
     CHECK(wgsl_tokens(NULL, 0, NULL, 0, &answer) == WGSL_DONE && answer.size == 0);
@@ -112,30 +112,30 @@ static int check_no_bytes(void) {
 
 /* A buffer that is too small does not change, and the size is returned; nor does what is after a
  * text in a buffer. */
-static int check_rooms(void) {
-    char room[256];
-    memset(room, '#', sizeof room);
+static int check_buffers(void) {
+    char buffer[256];
+    memset(buffer, '#', sizeof buffer);
     CHECK(wgsl_format("const N=1;", 10, NULL, 0, &answer) == WGSL_TOO_SMALL && is_size(13));
-    CHECK(wgsl_format("const N=1;", 10, room, 12, &answer) == WGSL_TOO_SMALL && is_size(13));
-    CHECK(is_filled(room, sizeof room));
-    CHECK(wgsl_format("const N=0x1f;", 13, room, 13, &answer) == WGSL_TOO_SMALL && is_size(14));
-    CHECK(is_filled(room, sizeof room));
-    CHECK(wgsl_format("const N=1;", 10, room, 13, &answer) == WGSL_DONE && is_size(13));
-    CHECK(memcmp(room, "const N = 1;\n", 13) == 0 && is_filled(room + 13, sizeof room - 13));
-    memset(room, '#', sizeof room);
-    CHECK(wgsl_format("const N=0x1f;", 13, room, 32, &answer) == WGSL_DONE && is_size(14));
-    CHECK(memcmp(room, "const N = 31;\n", 14) == 0 && is_filled(room + 14, sizeof room - 14));
+    CHECK(wgsl_format("const N=1;", 10, buffer, 12, &answer) == WGSL_TOO_SMALL && is_size(13));
+    CHECK(is_filled(buffer, sizeof buffer));
+    CHECK(wgsl_format("const N=0x1f;", 13, buffer, 13, &answer) == WGSL_TOO_SMALL && is_size(14));
+    CHECK(is_filled(buffer, sizeof buffer));
+    CHECK(wgsl_format("const N=1;", 10, buffer, 13, &answer) == WGSL_DONE && is_size(13));
+    CHECK(memcmp(buffer, "const N = 1;\n", 13) == 0 && is_filled(buffer + 13, sizeof buffer - 13));
+    memset(buffer, '#', sizeof buffer);
+    CHECK(wgsl_format("const N=0x1f;", 13, buffer, 32, &answer) == WGSL_DONE && is_size(14));
+    CHECK(memcmp(buffer, "const N = 31;\n", 14) == 0 && is_filled(buffer + 14, sizeof buffer - 14));
     return 0;
 }
 
 /* Returns whether a text is formatted so by a layout. */
 static int is_tidied(const struct wgsl_layout *layout, const char *text, const char *formatted) {
-    char room[256];
+    char buffer[256];
     size_t size = strlen(formatted);
-    memset(room, '#', sizeof room);
-    return wgsl_tidy(layout, text, strlen(text), room, sizeof room, &answer) == WGSL_DONE
-        && is_size(size) && memcmp(room, formatted, size) == 0
-        && is_filled(room + size, sizeof room - size);
+    memset(buffer, '#', sizeof buffer);
+    return wgsl_tidy(layout, text, strlen(text), buffer, sizeof buffer, &answer) == WGSL_DONE
+        && is_size(size) && memcmp(buffer, formatted, size) == 0
+        && is_filled(buffer + size, sizeof buffer - size);
 }
 
 /* A formatted text keeps comments and unknown names, and has the layout that is chosen. */
@@ -162,14 +162,14 @@ static int check_layouts(void) {
 /* A fault has its place with and without a buffer for its texts, and a module has none. */
 static int check_faults(void) {
     static const char texts[] = "unexpected token `=`, expected `identifier`\0identifier";
-    char room[256];
+    char buffer[256];
     CHECK(wgsl_check("const = 1;", 10, NULL, 0, &answer) == WGSL_REFUSED);
     CHECK(is_answer(55, 6, 7, WGSL_UNEXPECTED_TOKEN, 1));
-    memset(room, '#', sizeof room);
-    CHECK(wgsl_check("const = 1;", 10, room, sizeof room, &answer) == WGSL_REFUSED);
+    memset(buffer, '#', sizeof buffer);
+    CHECK(wgsl_check("const = 1;", 10, buffer, sizeof buffer, &answer) == WGSL_REFUSED);
     CHECK(is_answer(sizeof texts, 6, 7, WGSL_UNEXPECTED_TOKEN, 1));
-    CHECK(memcmp(room, texts, sizeof texts) == 0);
-    CHECK(is_filled(room + sizeof texts, sizeof room - sizeof texts));
+    CHECK(memcmp(buffer, texts, sizeof texts) == 0);
+    CHECK(is_filled(buffer + sizeof texts, sizeof buffer - sizeof texts));
     CHECK(wgsl_check("const N = 1;", 12, NULL, 0, &answer) == WGSL_DONE && is_size(0));
     CHECK(wgsl_check("// \xff", 4, NULL, 0, &answer) == WGSL_NOT_UTF8);
     CHECK(is_answer(0, 3, 3, 0, 0));
@@ -231,20 +231,20 @@ static int check_trees(void) {
         "{\"NamedComponent\":{\"component\":\"b\",\"base\":{\"span\":[0,1],\"node\":"
         "{\"TypeOrIdentifier\":{\"ident\":\"a\",\"template_args\":null}}}}}";
     size_t size = sizeof form - 1;
-    char room[256];
-    CHECK(wgsl_tree(WGSL_STATEMENT, ";", 1, room, sizeof room, &answer) == WGSL_DONE);
-    CHECK(answer.size == 6 && memcmp(room, "\"Void\"", 6) == 0);
-    CHECK(wgsl_tree(WGSL_EXPRESSION, "a.b", 3, room, sizeof room, &answer) == WGSL_DONE);
-    CHECK(is_size(size) && memcmp(room, form, size) == 0);
-    memset(room, '#', sizeof room);
-    CHECK(wgsl_tree(5, ";", 1, room, sizeof room, &answer) == WGSL_UNKNOWN && is_size(0));
-    CHECK(is_filled(room, sizeof room));
+    char buffer[256];
+    CHECK(wgsl_tree(WGSL_STATEMENT, ";", 1, buffer, sizeof buffer, &answer) == WGSL_DONE);
+    CHECK(answer.size == 6 && memcmp(buffer, "\"Void\"", 6) == 0);
+    CHECK(wgsl_tree(WGSL_EXPRESSION, "a.b", 3, buffer, sizeof buffer, &answer) == WGSL_DONE);
+    CHECK(is_size(size) && memcmp(buffer, form, size) == 0);
+    memset(buffer, '#', sizeof buffer);
+    CHECK(wgsl_tree(5, ";", 1, buffer, sizeof buffer, &answer) == WGSL_UNKNOWN && is_size(0));
+    CHECK(is_filled(buffer, sizeof buffer));
     CHECK(wgsl_tree(5, "a.b", 3, NULL, 0, &answer) == WGSL_UNKNOWN && is_size(0));
     return 0;
 }
 
-static uint32_t print(uint32_t kind, const char *form, char *room, size_t room_size) {
-    return wgsl_print(kind, form, strlen(form), room, room_size, &answer);
+static uint32_t print(uint32_t kind, const char *form, char *buffer, size_t buffer_size) {
+    return wgsl_print(kind, form, strlen(form), buffer, buffer_size, &answer);
 }
 
 /* A form is printed, whatever its kind. */
@@ -252,50 +252,52 @@ static int check_prints(void) {
     const struct printed_form *it = printed_forms;
     for (; it < printed_forms + sizeof printed_forms / sizeof *printed_forms; it++) {
         size_t size = strlen(it->text);
-        char room[64];
-        memset(room, '#', sizeof room);
+        char buffer[64];
+        memset(buffer, '#', sizeof buffer);
         CHECK(print(it->kind, it->form, NULL, 0) == WGSL_TOO_SMALL && is_size(size));
-        CHECK(print(it->kind, it->form, room, size - 1) == WGSL_TOO_SMALL && is_size(size));
-        CHECK(is_filled(room, sizeof room));
-        CHECK(print(it->kind, it->form, room, sizeof room) == WGSL_DONE && is_size(size));
-        CHECK(memcmp(room, it->text, size) == 0 && is_filled(room + size, sizeof room - size));
+        CHECK(print(it->kind, it->form, buffer, size - 1) == WGSL_TOO_SMALL && is_size(size));
+        CHECK(is_filled(buffer, sizeof buffer));
+        CHECK(print(it->kind, it->form, buffer, sizeof buffer) == WGSL_DONE && is_size(size));
+        CHECK(memcmp(buffer, it->text, size) == 0);
+        CHECK(is_filled(buffer + size, sizeof buffer - size));
     }
     return 0;
 }
 
-/* Another text is refused, with the place where that shows and a message if it fits. */
+/* Another text is rejected, with the place where that shows and a message if it fits. */
 static int check_refused_forms(void) {
     const struct refused_form *it = refused_forms;
     for (; it < refused_forms + sizeof refused_forms / sizeof *refused_forms; it++) {
         size_t size = strlen(it->message) + 1;
-        char room[64];
-        memset(room, '#', sizeof room);
-        CHECK(print(it->kind, it->form, room, size - 1) == WGSL_REFUSED);
+        char buffer[64];
+        memset(buffer, '#', sizeof buffer);
+        CHECK(print(it->kind, it->form, buffer, size - 1) == WGSL_REFUSED);
         CHECK(is_answer(size, it->place, it->place, WGSL_NOT_A_FORM, 0));
-        CHECK(is_filled(room, sizeof room));
-        CHECK(print(it->kind, it->form, room, sizeof room) == WGSL_REFUSED);
+        CHECK(is_filled(buffer, sizeof buffer));
+        CHECK(print(it->kind, it->form, buffer, sizeof buffer) == WGSL_REFUSED);
         CHECK(is_answer(size, it->place, it->place, WGSL_NOT_A_FORM, 0));
-        CHECK(memcmp(room, it->message, size) == 0 && is_filled(room + size, sizeof room - size));
+        CHECK(memcmp(buffer, it->message, size) == 0);
+        CHECK(is_filled(buffer + size, sizeof buffer - size));
     }
     return 0;
 }
 
-/* No kind has another number, and what is no text or no memory is reported first. */
+/* No kind has another number, and what is not text or not memory is reported first. */
 static int check_print_arguments(void) {
-    char room[64];
-    memset(room, '#', sizeof room);
-    CHECK(print(WGSL_TYPE_CONSTRAINT + 1, "\"Void\"", room, sizeof room) == WGSL_UNKNOWN);
-    CHECK(is_size(0) && print(UINT32_MAX, "", room, sizeof room) == WGSL_UNKNOWN && is_size(0));
-    CHECK(print(WGSL_STATEMENT, "\"\xff", room, sizeof room) == WGSL_NOT_UTF8);
+    char buffer[64];
+    memset(buffer, '#', sizeof buffer);
+    CHECK(print(WGSL_TYPE_CONSTRAINT + 1, "\"Void\"", buffer, sizeof buffer) == WGSL_UNKNOWN);
+    CHECK(is_size(0) && print(UINT32_MAX, "", buffer, sizeof buffer) == WGSL_UNKNOWN && is_size(0));
+    CHECK(print(WGSL_STATEMENT, "\"\xff", buffer, sizeof buffer) == WGSL_NOT_UTF8);
     CHECK(is_answer(0, 1, 1, 0, 0));
-    CHECK(print(UINT32_MAX, "\xff", room, sizeof room) == WGSL_NOT_UTF8 && is_size(0));
-    CHECK(wgsl_print(WGSL_STATEMENT, NULL, 1, room, 1, &answer) == WGSL_BAD_ARGUMENT);
-    CHECK(wgsl_print(WGSL_STATEMENT, "", SIZE_MAX, room, 1, &answer) == WGSL_BAD_ARGUMENT);
+    CHECK(print(UINT32_MAX, "\xff", buffer, sizeof buffer) == WGSL_NOT_UTF8 && is_size(0));
+    CHECK(wgsl_print(WGSL_STATEMENT, NULL, 1, buffer, 1, &answer) == WGSL_BAD_ARGUMENT);
+    CHECK(wgsl_print(WGSL_STATEMENT, "", SIZE_MAX, buffer, 1, &answer) == WGSL_BAD_ARGUMENT);
     CHECK(wgsl_print(WGSL_STATEMENT, "", 0, NULL, 1, &answer) == WGSL_BAD_ARGUMENT);
-    CHECK(wgsl_print(WGSL_STATEMENT, "", 0, room, SIZE_MAX, &answer) == WGSL_BAD_ARGUMENT);
-    CHECK(wgsl_print(WGSL_STATEMENT, "", 0, room, 1, NULL) == WGSL_BAD_ARGUMENT);
+    CHECK(wgsl_print(WGSL_STATEMENT, "", 0, buffer, SIZE_MAX, &answer) == WGSL_BAD_ARGUMENT);
+    CHECK(wgsl_print(WGSL_STATEMENT, "", 0, buffer, 1, NULL) == WGSL_BAD_ARGUMENT);
     CHECK(wgsl_print(WGSL_STATEMENT, NULL, 0, NULL, 0, &answer) == WGSL_REFUSED);
-    CHECK(answer.kind == WGSL_NOT_A_FORM && answer.size > 0 && is_filled(room, sizeof room));
+    CHECK(answer.kind == WGSL_NOT_A_FORM && answer.size > 0 && is_filled(buffer, sizeof buffer));
     return 0;
 }
 
@@ -330,15 +332,15 @@ static int check_names(void) {
 
 /* The message of an invalid token is what the calls with a buffer for it say of one. */
 static int check_message(void) {
-    char room[64];
-    CHECK(wgsl_check("#", 1, room, sizeof room, &answer) == WGSL_REFUSED);
+    char buffer[64];
+    CHECK(wgsl_check("#", 1, buffer, sizeof buffer, &answer) == WGSL_REFUSED);
     CHECK(is_answer(sizeof WGSL_INVALID_TOKEN_MESSAGE, 0, 1, WGSL_INVALID_TOKEN, 0));
-    CHECK(strcmp(room, WGSL_INVALID_TOKEN_MESSAGE) == 0);
+    CHECK(strcmp(buffer, WGSL_INVALID_TOKEN_MESSAGE) == 0);
     return 0;
 }
 
 static int (*const checks[])(void) = {
-    check_text_calls, check_other_calls,   check_no_bytes,        check_rooms,
+    check_text_calls, check_other_calls,   check_no_bytes,        check_buffers,
     check_layouts,    check_faults,        check_tokens,          check_lists,
     check_trees,      check_prints,        check_refused_forms,   check_print_arguments,
     check_positions,  check_names,         check_message,

@@ -1,4 +1,4 @@
-/* Text forms of nodes: one of each kind that wgsl_print takes, and some that it refuses. */
+/* Text forms of nodes: one of each kind that wgsl_print takes, and some that it rejects. */
 #ifndef LIBRARY_FORMS_H
 #define LIBRARY_FORMS_H
 

@@ -1,6 +1,6 @@
 /* Makes each call of wgsl.h on each text with one request for memory refused, the first, the
    second, and so on, and exits with the line of the first check that fails, or 0. Each call has to
-   return that memory was refused, or what it returns undisturbed, to give back all it took, and to
+   report out of memory or return what it returns undisturbed, to free all it allocated, and to
    make a request on some text. The texts are those below and those of
    crates/wgsl_test_memory/data/texts.txt; wgsl_print has their text forms and those of
    library_forms.h. It is run at the top of the repository, and linked with --wrap of malloc,
@@ -48,7 +48,7 @@ void __wrap_free(void *block) {
 struct said {
     uint32_t status;
     struct wgsl_answer answer;
-    size_t room[4096];
+    size_t buffer[4096];
 };
 
 enum { FORMAT, TIDIED, CHECKED, RECOGNIZED, TOKENS, LISTS, BEGINS, NESTING, TREES };
@@ -57,23 +57,23 @@ enum { PRINTS = TREES + WGSL_EXPRESSION + 1, CALLS = PRINTS + WGSL_TYPE_CONSTRAI
 /* Makes a call; those from TREES on ask for the kinds of trees, one after another, and those from
    PRINTS on print the kinds of nodes. */
 static uint32_t make(int call, const char *text, size_t size, struct said *said) {
-    char *room = (char *)said->room;
-    size_t room_size = sizeof said->room;
-    struct wgsl_token *tokens = (struct wgsl_token *)said->room;
-    struct wgsl_place *places = (struct wgsl_place *)said->room;
+    char *buffer = (char *)said->buffer;
+    size_t buffer_size = sizeof said->buffer;
+    struct wgsl_token *tokens = (struct wgsl_token *)said->buffer;
+    struct wgsl_place *places = (struct wgsl_place *)said->buffer;
     switch (call) {
     case FORMAT:
-        return wgsl_format(text, size, room, room_size, &said->answer);
+        return wgsl_format(text, size, buffer, buffer_size, &said->answer);
     case TIDIED:
-        return wgsl_tidy(NULL, text, size, room, room_size, &said->answer);
+        return wgsl_tidy(NULL, text, size, buffer, buffer_size, &said->answer);
     case CHECKED:
-        return wgsl_check(text, size, room, room_size, &said->answer);
+        return wgsl_check(text, size, buffer, buffer_size, &said->answer);
     case RECOGNIZED:
-        return wgsl_recognize(text, size, room, room_size, &said->answer);
+        return wgsl_recognize(text, size, buffer, buffer_size, &said->answer);
     case TOKENS:
-        return wgsl_tokens(text, size, tokens, room_size / sizeof *tokens, &said->answer);
+        return wgsl_tokens(text, size, tokens, buffer_size / sizeof *tokens, &said->answer);
     case LISTS:
-        return wgsl_template_lists(text, size, places, room_size / sizeof *places, &said->answer);
+        return wgsl_template_lists(text, size, places, buffer_size / sizeof *places, &said->answer);
     case BEGINS:
         return wgsl_begins_with_template_list(text, size, &said->answer);
     case NESTING:
@@ -82,9 +82,9 @@ static uint32_t make(int call, const char *text, size_t size, struct said *said)
         break;
     }
     if (call < PRINTS) {
-        return wgsl_tree((uint32_t)(call - TREES), text, size, room, room_size, &said->answer);
+        return wgsl_tree((uint32_t)(call - TREES), text, size, buffer, buffer_size, &said->answer);
     }
-    return wgsl_print((uint32_t)(call - PRINTS), text, size, room, room_size, &said->answer);
+    return wgsl_print((uint32_t)(call - PRINTS), text, size, buffer, buffer_size, &said->answer);
 }
 
 /* Makes a call with one request refused, and counts the requests. */
@@ -98,7 +98,7 @@ static void ask(int call, const char *text, size_t which, struct said *said) {
 static int is_same(const struct said *one, const struct said *other) {
     return one->status == other->status
         && memcmp(&one->answer, &other->answer, sizeof one->answer) == 0
-        && memcmp(one->room, other->room, sizeof one->room) == 0;
+        && memcmp(one->buffer, other->buffer, sizeof one->buffer) == 0;
 }
 
 static const char *const texts[] = {
@@ -141,14 +141,14 @@ static int check_call(int call, const char *text) {
 /* Makes each call on a text, and prints each of its trees. */
 static int check(const char *text) {
     static struct said tree;
-    char *form = (char *)tree.room;
+    char *form = (char *)tree.buffer;
     int call, failed = 0;
     for (call = 0; failed == 0 && call < PRINTS; call++) {
         failed = check_call(call, text);
         if (failed != 0 || call < TREES) continue;
         ask(call, text, SIZE_MAX, &tree);
         if (tree.status != WGSL_DONE) continue;
-        CHECK(tree.answer.size < sizeof tree.room);
+        CHECK(tree.answer.size < sizeof tree.buffer);
         form[tree.answer.size] = 0;
         failed = check_call(call - TREES + PRINTS, form);
     }

@@ -1,10 +1,10 @@
 """Breaks the long lines of an antt file where they are loosest, in the layout that `rt fmt` keeps.
 
 An item is a declaration, a clause, a field or a constructor, over one or more lines. `rt fmt`
-indents its lines after the first alike, except that a tuple, a record, or the cases of an `elim`
-with a break inside have each part on lines of its own. An item with a long line keeps its breaks
-and gets those of least cost: a line costs, a break costs by how deep it is in brackets and
-operators, and so does each column that a line has over the width.
+indents its lines after the first by the same width, except that a tuple, a record, or the cases
+of an `elim` with a break inside have each part on lines of its own. An item with a long line keeps
+its breaks and gets those of least cost: a line costs, a break costs by how deep it is in brackets
+and operators, and so does each column that a line has over the width.
 """
 import re
 import textwrap
@@ -81,7 +81,7 @@ def tree_of(tokens):
 
 
 def name_kinds(nodes):
-    """Tells tuples, records and cases from other brackets, which have no parts."""
+    """Names the kinds of brackets: tuples, records and cases, and others, which have no parts."""
     for at, node in enumerate(nodes):
         if node.inner is None:
             continue

@@ -3,7 +3,7 @@ import re
 from dataclasses import dataclass, field
 from pathlib import Path
 
-# a text in quotes, with how many times it stands there
+# a text in quotes, with how many times it is repeated
 PIECE = re.compile(r'"((?:[^"\\]|\\.)*)"(?:\s*\*\s*([1-9]\d*))?\s*')
 ESCAPE = re.compile(r"\\(x[0-9a-fA-F]{2}|u\{[0-9a-fA-F]+\}|.)")
 ESCAPED = {"n": b"\n", "r": b"\r", "t": b"\t", '"': b'"', "\\": b"\\"}
@@ -53,12 +53,12 @@ class Row:
         return next((it.value for it in self.wanted if it.words == words), None)
 
 
-def escaped(told):
-    """What a `\\` and what follows it stand for."""
-    if told[0] in "xu" and len(told) > 1:
-        number = int(told.strip("xu{}"), 16)
-        return bytes([number]) if told[0] == "x" else chr(number).encode()
-    return ESCAPED[told]
+def escaped(name):
+    """The bytes for a `\\` and what follows it."""
+    if name[0] in "xu" and len(name) > 1:
+        number = int(name.strip("xu{}"), 16)
+        return bytes([number]) if name[0] == "x" else chr(number).encode()
+    return ESCAPED[name]
 
 
 def text_of(quoted):
@@ -69,7 +69,7 @@ def text_of(quoted):
         if not piece:
             raise ValueError("a text does not end")
         parts = ESCAPE.split(piece[1])
-        # each second part is what stood after a `\`
+        # each second part is what was after a `\`
         plain = [it.encode() for it in parts[::2]]
         others = [escaped(it) for it in parts[1::2]]
         text = plain[0] + b"".join(a + b for a, b in zip(others, plain[1:]))
@@ -88,7 +88,7 @@ def add_line(row, line):
     elif row.fields:
         row.fields[-1].value += b"\n" + text_of(line)
     else:
-        raise ValueError("a text stands before the word that it belongs to")
+        raise ValueError("a text is before the word that it belongs to")
 
 
 def rows_of(path):
@@ -104,7 +104,7 @@ def rows_of(path):
                 row = None
             elif line.startswith("#"):
                 if row and row.fields:
-                    raise ValueError("a line that says what a row shows stands inside a row")
+                    raise ValueError("a line that says what a row shows is inside a row")
                 row = row or Row(path, number, line[1:].strip())
             elif not row:
                 raise ValueError("no line says what the row shows")

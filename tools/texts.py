@@ -13,7 +13,7 @@ SHADERS = sorted((Path(__file__).resolve().parent.parent / "examples").glob("*.w
 
 
 class Bracket(str):
-    """A bracket of a template list; a `<` or `>` that is none is an operator."""
+    """A bracket of a template list; a `<` or `>` that is not one is an operator."""
 
 
 OPEN, CLOSE = Bracket("<"), Bracket(">")
@@ -96,7 +96,7 @@ BitOr = | Unary
 BitXor = ^ Unary
 """.strip().splitlines()}
 COUNTS = {"": (1, 1), "?": (0, 1), "*": (0, 3), "+": (1, 3), ",": (1, 3)}
-# what may stand around a value, or around a block, any number of times
+# what may be around a value, or around a block, any number of times
 AROUND = [[["("], ["-"], ["a", OPEN], ["f", "("], ["a", "["], ["(", "1", "+"], ["(", "b", "<<"]],
           [["{"], ["if", "a", "{"], ["loop", "{"], ["for", "(", ";", ";", ")", "{"], ["@", "a", "{"]]]
 CLOSING = {"(": ")", "[": "]", "{": "}"}
@@ -183,7 +183,7 @@ def reaches_end(tokens):
 
 
 def module_tokens(random):
-    """A module, with `<=` for each `<` that would begin a template list and is to begin none."""
+    """A module, with `<=` for each `<` that would begin a template list and is not to."""
     derivation = Derivation(random, random.choice([5, 20, 30, 50, 100, 200, random.choice([200, 1000])]))
     tokens = derivation.deep() if random.random() < 0.02 else derivation.symbol("Module")
     for place in range(len(tokens) - 1, 0, -1):
@@ -199,7 +199,7 @@ def is_word(token):
 
 
 def closes_up(left, right):
-    """Whether two tokens may stand with nothing between."""
+    """Whether two tokens may be next to each other."""
     if isinstance(left, Bracket) or isinstance(right, Bracket) or {left, right} & set("()[]{},;@:~"):
         return True
     return is_word(left) != is_word(right) and not (right == "." and NUMBER.match(left) and left[-1] not in "iu")

@@ -2,7 +2,7 @@
 from typing import NamedTuple, Optional
 
 # what a node is read as by itself, by the last name of its path. What is not here has no place of
-# its own, or is read as nothing by itself; a name is the text that stands in the text form
+# its own, or is read as nothing by itself; a name is the text that the text form has
 KINDS = {
     "expression": """expression left right base index operand argument arguments condition rhs x y z
         template_args initializer""",
@@ -68,7 +68,7 @@ def count_of(node):
 
 
 def moved(form, by):
-    """A tree that stands so many bytes further."""
+    """A tree whose spans are `by` bytes further."""
     if is_spanned(form):
         return {"span": [it + by for it in form["span"]], "node": moved(form["node"], by)}
     if isinstance(form, dict):
@@ -77,7 +77,7 @@ def moved(form, by):
 
 
 def without_spans(form):
-    """A tree without its places."""
+    """A tree without its spans."""
     if is_spanned(form):
         return without_spans(form["node"])
     if isinstance(form, dict):
@@ -86,7 +86,7 @@ def without_spans(form):
 
 
 def without_empty_items(form):
-    """A tree without its places, and without the empty items of its lists."""
+    """A tree without its spans and without the empty items of its lists."""
     if is_spanned(form):
         return without_empty_items(form["node"])
     if isinstance(form, list):

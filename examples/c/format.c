@@ -8,18 +8,18 @@
 static char *read_all(const char *name, size_t *size) {
     FILE *file = fopen(name, "rb");
     char *text = NULL;
-    size_t room = 0, count = 1;
+    size_t capacity = 0, count = 1;
     *size = 0;
     while (file != NULL && count > 0) {
-        if (*size == room) {
-            room = 2 * room + 4096;
-            char *grown = realloc(text, room);
+        if (*size == capacity) {
+            capacity = 2 * capacity + 4096;
+            char *grown = realloc(text, capacity);
             if (grown == NULL) {
                 break;
             }
             text = grown;
         }
-        count = fread(text + *size, 1, room - *size, file);
+        count = fread(text + *size, 1, capacity - *size, file);
         *size += count;
     }
     if (file == NULL || count > 0 || ferror(file)) {
@@ -49,27 +49,27 @@ int main(int count, char **arguments) {
         return 4;
     }
     struct wgsl_answer answer = {0};
-    size_t room_size = size + size / 2 + 256;
-    char *room = malloc(room_size);
+    size_t buffer_size = size + size / 2 + 256;
+    char *buffer = malloc(buffer_size);
     uint32_t status = WGSL_OUT_OF_MEMORY;
-    while (room != NULL) {
-        status = wgsl_format(text, size, room, room_size, &answer);
-        if (answer.size <= room_size) {
+    while (buffer != NULL) {
+        status = wgsl_format(text, size, buffer, buffer_size, &answer);
+        if (answer.size <= buffer_size) {
             break;
         }
-        room_size = answer.size;
-        free(room);
-        room = malloc(room_size);
+        buffer_size = answer.size;
+        free(buffer);
+        buffer = malloc(buffer_size);
     }
-    if (room == NULL) {
+    if (buffer == NULL) {
         status = WGSL_OUT_OF_MEMORY;
     }
     switch (status) {
     case WGSL_DONE:
-        fwrite(room, 1, answer.size, stdout);
+        fwrite(buffer, 1, answer.size, stdout);
         break;
     case WGSL_REFUSED:
-        report(arguments[1], wgsl_position_of(text, size, answer.start), room);
+        report(arguments[1], wgsl_position_of(text, size, answer.start), buffer);
         break;
     case WGSL_NOT_UTF8:
         report(arguments[1], wgsl_position_of(text, size, answer.start), "this is not UTF-8");
@@ -77,7 +77,7 @@ int main(int count, char **arguments) {
     default:
         fprintf(stderr, "out of memory\n");
     }
-    free(room);
+    free(buffer);
     free(text);
     return fflush(stdout) == 0 && !ferror(stdout) ? (int)status : 4;
 }

@@ -5,7 +5,7 @@
 
 #include "wgsl.h"
 
-/* A quoted name with its field has at most so many bytes. */
+/* A quoted name with its field has at most this many bytes. */
 enum { FIELD = 256 };
 
 static char text[1 << 16], form[1 << 22], renamed[1 << 22];

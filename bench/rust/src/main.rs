@@ -15,7 +15,7 @@ the best and of the median of N runs, which are made in turn; N is 15 unless it 
     format   the same and the printed text
     print    what `format` takes more than `parse`
 
-To hold another implementation against it in the same process, add its crate to
+To compare another implementation in the same process, add its crate to
 bench/rust/Cargo.toml and a line for each of its calls to MEASURED in bench/rust/src/main.rs:
 
     (\"other parse\", |text| black_box(other::parse(text)).is_ok()),
@@ -33,8 +33,8 @@ const MEASURED: &[Measured] = &[
     }),
 ];
 
-/// What is told of two measurements, since no call does it by itself: its name, and the names of
-/// the one that takes it in and of the one that is the rest.
+/// What is printed of two measurements, since no call does it by itself: its name, and the names of
+/// the one that includes it and of the one that is the rest.
 const DIFFERENCES: &[(&str, &str, &str)] = &[("print", "format", "parse")];
 
 /// How often each is measured where no number is given.
@@ -43,7 +43,7 @@ const RUNS: usize = 15;
 /// The shortest that a run takes, in seconds: a short text is taken as often as that needs.
 const SHORTEST: f64 = 0.02;
 
-/// The seconds that a text takes, in a run of so many turns, unless it is refused.
+/// The seconds that a text takes, in a run of `turns` turns, unless it is rejected.
 fn seconds(done: fn(&str) -> bool, text: &str, turns: usize) -> Option<f64> {
     let start = Instant::now();
     for _ in 0..turns {
@@ -64,7 +64,7 @@ struct Taken {
 }
 
 impl Taken {
-    /// A measurement that is to be made, unless the text is refused.
+    /// A measurement that is to be made, unless the text is rejected.
     fn new((name, done): Measured, text: &str) -> Option<Self> {
         let once = seconds(done, text, 1)?.max(1e-9);
         let turns = ((SHORTEST / once).ceil() as usize).clamp(1, 1_000_000);
@@ -84,7 +84,7 @@ fn best_and_median(taken: &Taken) -> Option<(f64, f64)> {
     Some((*sorted.first()?, sorted[sorted.len() / 2]))
 }
 
-/// How many megabytes a second so many bytes are; none where no time was measured.
+/// How many megabytes a second `size` bytes are; none where no time was measured.
 fn speed(size: usize, seconds: f64) -> String {
     if seconds > 0.0 {
         format!("{:.1}", size as f64 / seconds / 1e6)
@@ -104,7 +104,7 @@ fn measure(file: &str, text: &str, runs: usize) {
     for measured in MEASURED {
         match Taken::new(*measured, text) {
             Some(taken) => all.push(taken),
-            None => eprintln!("{file}: {} refuses it", measured.0),
+            None => eprintln!("{file}: {} rejects it", measured.0),
         }
     }
     for _ in 0..runs {
@@ -116,7 +116,7 @@ fn measure(file: &str, text: &str, runs: usize) {
         let taken = all.iter().find(|taken| taken.name == name)?;
         best_and_median(taken)
     };
-    let told = |name: &str, best: f64, median: f64| {
+    let line = |name: &str, best: f64, median: f64| {
         tell(
             file,
             name,
@@ -126,12 +126,12 @@ fn measure(file: &str, text: &str, runs: usize) {
     };
     for (name, _) in MEASURED {
         if let Some((best, median)) = named(name) {
-            told(name, best, median);
+            line(name, best, median);
         }
     }
     for (name, whole, rest) in DIFFERENCES {
         if let (Some(whole), Some(rest)) = (named(whole), named(rest)) {
-            told(name, whole.0 - rest.0, whole.1 - rest.1);
+            line(name, whole.0 - rest.0, whole.1 - rest.1);
         }
     }
 }

@@ -1,4 +1,4 @@
-//! Texts that are made from numbers: modules, and such with something put in or left out.
+//! Texts that are made from numbers: modules, and modules with something put in or left out.
 
 const NAMES: &[&str] = &[
     "a", "b", "c2", "main", "i32", "f32", "vec3", "array", "S", "é",
