@@ -33,19 +33,43 @@ use sealed::Written;
 pub(crate) use values::write_text;
 pub(crate) use writer::Writer;
 
-/// The reason why a text is not read as a tree.
+/// The error for a text that is not the form of a tree: what is wrong, and where.
+#[derive(Clone, Copy, Debug, PartialEq, Eq, Hash)]
+pub struct FormError {
+    /// What is wrong.
+    pub kind: FormErrorKind,
+    /// The byte offset at which it is found.
+    pub place: usize,
+}
+
+/// What is wrong with a text that is not the form of a tree.
 #[derive(Clone, Copy, Debug, PartialEq, Eq, Hash)]
 #[non_exhaustive]
-pub enum FormError {
-    /// It is not the form of such a tree.
-    Malformed,
+pub enum FormErrorKind {
+    /// Something else was expected, as `,"body":`, `a number` or ``a word of `AccessMode` ``.
+    Expected(&'static str),
+    /// A number that its place in the tree cannot hold.
+    OutOfRange,
+    /// A span that starts after its end.
+    SpanOrder,
+    /// More text after the form.
+    Trailing,
+}
+
+impl fmt::Display for FormErrorKind {
+    fn fmt(&self, f: &mut fmt::Formatter<'_>) -> fmt::Result {
+        match self {
+            FormErrorKind::Expected(what) => write!(f, "expected {what}"),
+            FormErrorKind::OutOfRange => f.write_str("the number is out of range"),
+            FormErrorKind::SpanOrder => f.write_str("the span starts after its end"),
+            FormErrorKind::Trailing => f.write_str("expected the end of the form"),
+        }
+    }
 }
 
 impl fmt::Display for FormError {
     fn fmt(&self, f: &mut fmt::Formatter<'_>) -> fmt::Result {
-        f.write_str(match self {
-            FormError::Malformed => "this is not the text form of such a tree",
-        })
+        write!(f, "byte {}: {}", self.place, self.kind)
     }
 }
 
@@ -121,16 +145,19 @@ pub fn to_form<T: Form>(tree: &T) -> String {
 ///
 /// # Errors
 ///
-/// A text that is no such form.
+/// What is wrong with the text, and where, if it is not such a form.
 ///
 /// # Examples
 ///
 /// ```
-/// use centrelilac::form::{from_form, FormError};
+/// use centrelilac::form::{from_form, FormErrorKind};
 /// use centrelilac::syntax::{LiteralExpression, Statement};
 ///
 /// assert_eq!(from_form(r#"{"U32":4}"#), Ok(LiteralExpression::U32(4)));
-/// assert_eq!(from_form::<Statement>(r#"{"U32":4}"#), Err(FormError::Malformed));
+/// let error = from_form::<LiteralExpression>(r#"{"U32":-4}"#).unwrap_err();
+/// assert_eq!((error.kind, error.place), (FormErrorKind::OutOfRange, 7));
+/// assert_eq!(error.to_string(), "byte 7: the number is out of range");
+/// assert!(from_form::<Statement>(r#"{"U32":4}"#).is_err());
 /// ```
 pub fn from_form<T: Form>(text: &str) -> Result<T, FormError> {
     holes::read_all(text)

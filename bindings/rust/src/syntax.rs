@@ -59,7 +59,7 @@
 
 use crate::fault::Fault;
 use crate::form::sealed::{Numbered, Written};
-use crate::form::{from_form, text_form, FormError, Reader, Source, Writer};
+use crate::form::{from_form, text_form, FormError, FormErrorKind, Reader, Source, Writer};
 use crate::nested::{Code, Coded, Copies};
 use crate::visit::{Accept, Visit, VisitMut, Walk};
 use std::str::FromStr;

@@ -1,7 +1,7 @@
 //! The values that are written as words of their own, and the operators.
 
 use crate::form::sealed::Written;
-use crate::form::{write_text, FormError, Reader, Writer};
+use crate::form::{write_text, FormError, FormErrorKind, Reader, Writer};
 use crate::nested::{Code, Coded, Copies};
 use std::error::Error;
 use std::fmt;
@@ -73,8 +73,12 @@ macro_rules! words {
             }
 
             fn read(from: &mut Reader<'_>) -> Result<Self, FormError> {
+                let place = from.place();
                 let word = String::read(from)?;
-                word.parse().map_err(|_| FormError::Malformed)
+                word.parse().map_err(|_| FormError {
+                    kind: FormErrorKind::Expected(concat!("a word of `", stringify!($name), "`")),
+                    place,
+                })
             }
         }
 

@@ -1,6 +1,6 @@
 //! Trees that nest deeply: made by hand and read from texts, with a small stack.
 
-use centrelilac::form::{from_form, to_form, FormError};
+use centrelilac::form::{from_form, to_form};
 use centrelilac::span::equal_with_spans;
 use centrelilac::syntax::*;
 use std::collections::hash_map::DefaultHasher;
@@ -132,15 +132,13 @@ fn other_deep_texts_are_no_form() {
         };
         let name = r#"{"TypeOrIdentifier":{"ident":"{]\"","template_args":null}}"#;
         assert!(form(name, "}}}").is_ok());
-        assert_eq!(form(name, "}}"), Err(FormError::Malformed));
-        assert_eq!(form(name, ""), Err(FormError::Malformed));
-        assert_eq!(form(name, "}}} "), Err(FormError::Malformed));
-        assert_eq!(
-            form(r#"{"TypeOrIdentifier":1}"#, "}}}"),
-            Err(FormError::Malformed)
-        );
-        assert_eq!(form("\"Void\"", "}}}"), Err(FormError::Malformed));
-        assert_eq!(form("]", "}}}"), Err(FormError::Malformed));
+        let place = |inside: &str, close: &str| form(inside, close).unwrap_err().place;
+        let front = LEVELS * open.len();
+        assert!(form(name, "}}").is_err() && form(name, "").is_err());
+        assert_eq!(place(name, "}}} "), front + name.len() + 3);
+        assert_eq!(place(r#"{"TypeOrIdentifier":1}"#, "}}}"), front + 20);
+        assert_eq!(place("\"Void\"", "}}}"), front);
+        assert!(form("]", "}}}").is_err());
     });
 }
 

@@ -4,7 +4,7 @@
 mod row;
 mod text;
 
-use centrelilac::form::{from_form, text_form, to_form, FormError, Source};
+use centrelilac::form::{from_form, text_form, to_form, Source};
 use centrelilac::span::equal_with_spans;
 use centrelilac::syntax::{
     Expression, GlobalDeclaration, GlobalDirective, ModulePath, Statement, TranslationUnit,
@@ -227,35 +227,4 @@ fn rows_hold() {
         .join()
         .expect("each row holds");
     assert!(count > 1_800, "only {count} rows were read");
-}
-
-/// What is not the form of a tree is reported as such.
-#[test]
-fn other_texts_are_no_form() {
-    for text in [
-        "",
-        "{}",
-        "null",
-        r#"{"global_directives":[]}"#,
-        r#"{"Void":1}"#,
-        r#""Void" "#,
-    ] {
-        let read = from_form::<Statement>(text);
-        assert_eq!(read, Err(FormError::Malformed), "{text}");
-    }
-    assert_eq!(from_form(r#""Void""#), Ok(Statement::Void));
-    let lists = "[".repeat(100_000);
-    assert_eq!(from_form::<Statement>(&lists), Err(FormError::Malformed));
-}
-
-/// Characters that are after a `\` in a form are read back.
-#[test]
-fn texts_have_a_form() {
-    let text = "a\"b\\c\u{1}é".to_owned();
-    let form = to_form(&text);
-    assert_eq!(form, r#""a\"b\\c\u0001é""#);
-    assert_eq!(from_form(&form), Ok(text));
-    for wrong in [r#""\u00""#, r#""\ud800""#, r#""\n""#, r#""a"#] {
-        assert_eq!(from_form::<String>(wrong), Err(FormError::Malformed));
-    }
 }

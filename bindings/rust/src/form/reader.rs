@@ -2,9 +2,10 @@
 
 use super::holes::{deep_nodes, Hole, Kind, DEEPEST};
 use super::sealed::Written;
-use super::FormError;
+use super::{FormError, FormErrorKind};
 use crate::nested::Nested;
 use crate::span::{Span, Spanned};
+use std::str::FromStr;
 
 /// The rest of a text, and what is left out of the tree that is read.
 #[derive(Debug)]
@@ -41,7 +42,20 @@ impl<'t> Reader<'t> {
         if self.left.is_empty() {
             Ok(tree)
         } else {
-            Err(FormError::Malformed)
+            Err(self.error(FormErrorKind::Trailing))
+        }
+    }
+
+    /// Returns the byte offset of what is read next.
+    pub fn place(&self) -> usize {
+        self.end - self.left.len()
+    }
+
+    /// Returns an error at what is read next.
+    pub fn error(&self, kind: FormErrorKind) -> FormError {
+        FormError {
+            kind,
+            place: self.place(),
         }
     }
 
@@ -71,14 +85,17 @@ impl<'t> Reader<'t> {
         if self.deep.is_none() {
             self.deep = deep_nodes(self.text);
         }
-        let deep = self.deep.as_ref().ok_or(FormError::Malformed)?;
-        let at = self.end - self.left.len();
+        let unclosed = FormError {
+            kind: FormErrorKind::Expected("a bracket that closes each that is open"),
+            place: self.text.len(),
+        };
+        let deep = self.deep.as_ref().ok_or(unclosed)?;
+        let at = self.place();
         let Ok(found) = deep.binary_search_by_key(&at, |form| form.start) else {
             return Ok(None);
         };
         let form = deep[found];
-        let after = self.left.get(form.end - at..);
-        self.left = after.ok_or(FormError::Malformed)?;
+        self.left = self.left.get(form.end - at..).ok_or(unclosed)?;
         self.holes.push(Hole { kind, span, form });
         Ok(Some(self.holes.len() - 1))
     }
@@ -95,37 +112,58 @@ impl<'t> Reader<'t> {
     }
 
     /// Takes a text, which has to be next.
-    pub fn expect(&mut self, text: &str) -> Result<(), FormError> {
+    pub fn expect(&mut self, text: &'static str) -> Result<(), FormError> {
         if self.takes(text) {
             Ok(())
         } else {
-            Err(FormError::Malformed)
+            Err(self.error(FormErrorKind::Expected(text)))
         }
     }
 
-    /// Takes what is before the first character that a test does not hold of.
-    pub fn take_while(&mut self, test: impl Fn(char) -> bool) -> &'t str {
-        let end = self.left.find(|c| !test(c)).unwrap_or(self.left.len());
-        let (taken, left) = self.left.split_at(end);
+    /// Takes what is before the first byte of which a test holds, which is one of ASCII.
+    pub fn take_until(&mut self, test: impl Fn(u8) -> bool) -> &'t str {
+        let bytes = self.left.as_bytes();
+        let end = bytes.iter().position(|byte| test(*byte));
+        let (taken, left) = self.left.split_at(end.unwrap_or(bytes.len()));
         self.left = left;
         taken
     }
 
-    /// Takes the name of a field, with what is before it and the colon after it.
-    pub fn field(&mut self, before: &str, name: &str) -> Result<(), FormError> {
-        self.expect(before)?;
-        self.expect("\"")?;
-        self.expect(name)?;
-        self.expect("\":")
+    /// Takes the name of a variant, if one is next, and returns whether it holds something, which
+    /// is after it.
+    pub fn variant(&mut self) -> Option<(&'t str, bool)> {
+        let holds = self.takes("{");
+        self.takes("\"").then_some(())?;
+        let name = self.take_until(|byte| byte == b'"');
+        let is_whole = self.takes(if holds { "\":" } else { "\"" });
+        is_whole.then_some((name, holds))
     }
 
-    /// Takes the name of a variant, and returns whether it holds something, which is next.
-    pub fn variant(&mut self) -> Result<(&'t str, bool), FormError> {
-        let holds = self.takes("{");
-        self.expect("\"")?;
-        let name = self.take_while(|c| c != '"');
-        self.expect(if holds { "\":" } else { "\"" })?;
-        Ok((name, holds))
+    /// Takes a whole number, as it is written.
+    pub fn number<T: FromStr>(&mut self) -> Result<T, FormError> {
+        let from = self.place();
+        let wrong = |what| FormError {
+            kind: FormErrorKind::Expected(what),
+            place: from,
+        };
+        let number = self.take_until(|byte| byte != b'-' && !byte.is_ascii_digit());
+        let (sign, digits) = match number.strip_prefix('-') {
+            Some(digits) => ("-", digits),
+            None => ("", number),
+        };
+        match (sign, digits) {
+            (_, "") => return Err(wrong("a number")),
+            ("-", "0") => return Err(wrong("a number that is not 0 after `-`")),
+            (_, "0") => {}
+            _ if digits.starts_with('0') => {
+                return Err(wrong("a number without leading zeros"));
+            }
+            _ => {}
+        }
+        number.parse().map_err(|_| FormError {
+            kind: FormErrorKind::OutOfRange,
+            place: from,
+        })
     }
 
     /// Takes a character of a text that is written after a `\`.
@@ -136,13 +174,14 @@ impl<'t> Reader<'t> {
         if self.takes("\\") {
             return Ok('\\');
         }
-        self.expect("u")?;
-        let digits = self.left.get(..4).ok_or(FormError::Malformed)?;
-        if !digits.bytes().all(|digit| digit.is_ascii_hexdigit()) {
-            return Err(FormError::Malformed);
-        }
-        let number = u32::from_str_radix(digits, 16).map_err(|_| FormError::Malformed)?;
-        self.left = &self.left[4..];
-        char::from_u32(number).ok_or(FormError::Malformed)
+        let digits = self.left.strip_prefix("u00").and_then(|it| it.get(..2));
+        let control = digits.and_then(|it| match it.as_bytes() {
+            [b'0' | b'1', b'0'..=b'9' | b'a'..=b'f'] => u8::from_str_radix(it, 16).ok(),
+            _ => None,
+        });
+        let expected = FormErrorKind::Expected("`\"`, `\\`, or `u00` and a control character");
+        let control = control.ok_or_else(|| self.error(expected))?;
+        self.left = &self.left[5..];
+        Ok(char::from(control))
     }
 }

@@ -1,7 +1,7 @@
 //! The forms of what the fields of nodes hold: numbers, texts, lists, and what may be left out.
 
 use super::sealed::Written;
-use super::{FormError, Reader, Writer};
+use super::{FormError, FormErrorKind, Reader, Writer};
 use std::fmt::Write;
 
 impl Written for bool {
@@ -27,8 +27,7 @@ macro_rules! numbers {
             }
 
             fn read(from: &mut Reader<'_>) -> Result<Self, FormError> {
-                let digits = from.take_while(|c| c == '-' || c.is_ascii_digit());
-                digits.parse().map_err(|_| FormError::Malformed)
+                from.number()
             }
         }
     )*};
@@ -39,17 +38,27 @@ numbers!(i32 u32 i64 usize);
 /// Writes a text in quotes.
 pub fn write_text(text: &str, out: &mut String) {
     out.push('"');
-    for c in text.chars() {
-        match c {
-            '"' => out.push_str("\\\""),
-            '\\' => out.push_str("\\\\"),
-            '\0'..='\u{1f}' => {
-                let _ = write!(out, "\\u{:04x}", u32::from(c));
-            }
-            _ => out.push(c),
+    let mut plain = 0;
+    for (at, byte) in text.bytes().enumerate() {
+        if byte < b' ' || byte == b'"' || byte == b'\\' {
+            out.push_str(&text[plain..at]);
+            write_escape(byte, out);
+            plain = at + 1;
         }
     }
+    out.push_str(&text[plain..]);
     out.push('"');
+}
+
+/// Writes a character that is not written as it is: a quotation mark, a `\` or a control character.
+fn write_escape(byte: u8, out: &mut String) {
+    match byte {
+        b'"' => out.push_str("\\\""),
+        b'\\' => out.push_str("\\\\"),
+        _ => {
+            let _ = write!(out, "\\u{byte:04x}");
+        }
+    }
 }
 
 impl Written for String {
@@ -61,11 +70,13 @@ impl Written for String {
         from.expect("\"")?;
         let mut text = String::new();
         loop {
-            text.push_str(from.take_while(|c| c != '"' && c != '\\'));
+            text.push_str(from.take_until(|byte| matches!(byte, b'"' | b'\\' | 0..=0x1f)));
             if from.takes("\"") {
                 return Ok(text);
             }
-            from.expect("\\")?;
+            if !from.takes("\\") {
+                return Err(from.error(FormErrorKind::Expected("the end of the text")));
+            }
             text.push(from.escaped()?);
         }
     }

@@ -27,10 +27,10 @@ macro_rules! structs {
             }
 
             fn read(from: &mut Reader<'_>) -> Result<Self, FormError> {
-                from.field("{", stringify!($first))?;
+                from.expect(concat!("{\"", stringify!($first), "\":"))?;
                 let $first = Written::read(from)?;
                 $(
-                    from.field(",", stringify!($field))?;
+                    from.expect(concat!(",\"", stringify!($field), "\":"))?;
                     let $field = Written::read(from)?;
                 )*
                 from.expect("}")?;
@@ -88,13 +88,22 @@ macro_rules! enums {
 
         impl Written for $name {
             fn write<'t>(&'t self, out: &mut Writer<'t>) {
-                $(write_variant!(self, out, $name $variant $(($held))?);)*
+                match self {$(
+                    $name::$variant $((either!(held, $held)))? => {
+                        write_variant!(out, $variant $(either!(held, $held))?)
+                    }
+                )*}
             }
 
             fn read(from: &mut Reader<'_>) -> Result<Self, FormError> {
-                let (name, holds) = from.variant()?;
-                $(read_variant!(from, name, holds, $name $variant $(($held))?);)*
-                Err(FormError::Malformed)
+                let place = from.place();
+                if let Some((name, holds)) = from.variant() {
+                    $(read_variant!(from, name, holds, $name $variant $(($held))?);)*
+                }
+                Err(FormError {
+                    kind: FormErrorKind::Expected(concat!("a `", stringify!($name), "`")),
+                    place,
+                })
             }
         }
 
@@ -143,20 +152,16 @@ macro_rules! enums {
     };
 }
 
-/// Writes a value if it is a variant.
+/// Writes a variant, with what it holds.
 macro_rules! write_variant {
-    ($value:ident, $out:ident, $name:ident $variant:ident) => {
-        if let $name::$variant = $value {
-            $out.push_str(concat!("\"", stringify!($variant), "\""));
-        }
+    ($out:ident, $variant:ident) => {
+        $out.push_str(concat!("\"", stringify!($variant), "\""))
     };
-    ($value:ident, $out:ident, $name:ident $variant:ident ($held:ty)) => {
-        if let $name::$variant(held) = $value {
-            $out.push_str(concat!("{\"", stringify!($variant), "\":"));
-            held.write($out);
-            $out.push('}');
-        }
-    };
+    ($out:ident, $variant:ident $held:expr) => {{
+        $out.push_str(concat!("{\"", stringify!($variant), "\":"));
+        $held.write($out);
+        $out.push('}');
+    }};
 }
 
 /// Reads a variant if it has the name.
