@@ -10,10 +10,12 @@ usage: wgsl_speed [--runs N] FILE..
 For each file that is a module it prints a line for each measurement, with megabytes a second, of
 the best and of the median of N runs, which are made in turn; N is 15 unless it is given.
 
-    lex      the tokens as an array
-    parse    the tokens and the tree, which is dropped
-    format   the same and the printed text
-    print    what `format` takes more than `parse`
+    lex           the tokens as an array
+    parse         the tokens and the tree, which is dropped
+    format        the same and the printed text
+    print         what `format` takes more than `parse`
+    rust tree     the tree as Rust's, which is dropped
+    rust print    what it takes more to print that tree
 
 To compare another implementation in the same process, add its crate to
 bench/rust/Cargo.toml and a line for each of its calls to MEASURED in bench/rust/src/main.rs:
@@ -31,11 +33,21 @@ const MEASURED: &[Measured] = &[
     ("format", |text| {
         black_box(centrelilac::format(text)).is_ok()
     }),
+    ("rust tree", |text| {
+        black_box(centrelilac::parse(text)).is_ok()
+    }),
+    ("rust tree, printed", |text| {
+        let tree = centrelilac::parse(text);
+        tree.is_ok_and(|it| !black_box(it.to_string()).is_empty())
+    }),
 ];
 
 /// What is printed of two measurements, since no call does it by itself: its name, and the names of
 /// the one that includes it and of the one that is the rest.
-const DIFFERENCES: &[(&str, &str, &str)] = &[("print", "format", "parse")];
+const DIFFERENCES: &[(&str, &str, &str)] = &[
+    ("print", "format", "parse"),
+    ("rust print", "rust tree, printed", "rust tree"),
+];
 
 /// How often each is measured where no number is given.
 const RUNS: usize = 15;
@@ -95,7 +107,7 @@ fn speed(size: usize, seconds: f64) -> String {
 
 /// Prints a line.
 fn tell(file: &str, name: &str, best: &str, median: &str) {
-    println!("{file:32} {name:12} {best:>8} {median:>8}");
+    println!("{file:32} {name:20} {best:>8} {median:>8}");
 }
 
 /// Measures a text in each way that accepts it.
