@@ -278,7 +278,10 @@ def substituted(term, found):
     if isinstance(term, tuple):
         if term[:1] == ("name",):
             return found.get(term[1], term)
-        return tuple(substituted(part, found) for part in term)
+        made = tuple(substituted(part, found) for part in term)
+        if made[:1] == ("app",) and made[1][0] == "app":
+            return ("app", made[1][1], made[1][2] + made[2])
+        return made
     return term
 
 

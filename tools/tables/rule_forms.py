@@ -1,4 +1,4 @@
-"""The forms of the lemmas on rules, of which four theories have one for each rule."""
+"""The forms of the lemmas on rules, of which five theories have one for each rule."""
 from dataclasses import dataclass, field
 
 
@@ -33,6 +33,9 @@ class Form:
     known: dict = field(default_factory=dict)
     # whether the predicates are of values, and not relations of them
     holds: bool = False
+    # the variable of a span, where values keep their spans; what a term takes before its rule
+    span: str = ""
+    binds: str = ""
 
     def __post_init__(self):
         self.words = self.words or tuple(self.places)
@@ -115,4 +118,17 @@ MOVES = Form(
     hints={f"{way}_moves": ("bare",) for way in (*WAYS, "with_attributes")}
           | {"makes_moves": ("like",)})
 
-FORMS = (READS, EDITS, SOUND, MOVES)
+RENAMES = Form(
+    folder="wgsl_theory_names/proofs/Derived",
+    head="What each rule derives of renamed tokens",
+    says="NAME_renames : {f : Renaming} → RenamesBy f (written NAME) (Renamed f NAME)",
+    table="rules : {f : Renaming} → (n : Symbol) → RenamesBy f (written n) (Renamed f n)",
+    places={"RenamesBy": 1},
+    files=["wgsl_theory_names/proofs/Derived/*.antt"],
+    others=["wgsl_model_names/specs/*.antt"],
+    hints={f"{way}_renames": ("change",) for way in (*WAYS, "with_attributes")}
+          | {"makes_renames": ("like",)},
+    span="s",
+    binds=" {f = f}")
+
+FORMS = (READS, EDITS, SOUND, MOVES, RENAMES)

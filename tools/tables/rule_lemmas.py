@@ -33,7 +33,7 @@ class Theory:
     def __init__(self, form, grammar):
         self.form, self.grammar = form, grammar
         files, others = files_of(form.files), files_of(form.others)
-        self.names = Names(grammar, files + others)
+        self.names = Names(grammar, files + others, form.span)
         self.clauses = {n: c for file in others + files for n, c in file.clauses.items()}
         lemmas = [Lemma(name, file.name, text, form, self.expanded) for file in files
                   for name, public, text in file.signatures if public and form.mentions(text)]

@@ -11,8 +11,10 @@ COMMON = "Rattle.std.proofs.Common"
 class Names:
     """The names that a file imports, from the files of its theory and the grammar."""
 
-    def __init__(self, grammar, files):
+    def __init__(self, grammar, files, span=""):
         self.grammar, self.files = grammar, files
+        # the variable of a span, where values keep their spans
+        self.span = span
         self.symbols = set(grammar.rules)
         # names by module, modules with their short names, and names of variables
         self.imports, self.aliases, self.local = {}, set(), set()
@@ -85,7 +87,7 @@ class Names:
         if kind == "path":
             return value[1] + at
         if kind == "span":
-            return self.name("no_span")
+            return self.span or self.name("no_span")
         if kind == "tuple":
             return "(" + ", ".join(self.value(part, at) for part in value[1]) + ")"
         if kind == "record":

@@ -3,7 +3,7 @@
 
 Run it at the top of the repository: tools/tables/rule_terms.py
 
-Four theories have lemmas for the ways to write a rule, and a file RuleTerms.antt. The term of a
+Five theories have lemmas for the ways to write a rule, and a file RuleTerms.antt. The term of a
 rule is found from the public lemmas in the theory's other files: the lemma whose rule is most like
 the right side is applied to the terms of its parts, and what the rule makes is read from the
 definitions. A rule that has a lemma in another file is left out. The prover checks each term.
@@ -78,7 +78,7 @@ def lemma_of(theory, symbol, rule):
     if term is None:
         sys.exit(f"tools/tables/rule_terms.py: no term for {name}: a part of its rule has no lemma")
     seen = "pub " if symbol in theory.form.untold else ""
-    return name, wrapped(f"{seen}{name} :", says) + "\n" + wrapped(f"{name} =", term)
+    return name, wrapped(f"{seen}{name} :", says) + "\n" + wrapped(f"{name}{theory.form.binds} =", term)
 
 
 def write(form, grammar):

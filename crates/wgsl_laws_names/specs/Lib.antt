@@ -1,0 +1,4 @@
+-- Rows worked out by hand.
+pub mod RowParts
+pub mod ScopeRows
+pub mod UseRows

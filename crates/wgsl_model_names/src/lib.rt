@@ -1,0 +1,2 @@
+//! What the names of a module refer to, and what renaming makes of a module.
+#![tactic(auto)]

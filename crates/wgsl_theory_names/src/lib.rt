@@ -1,0 +1,3 @@
+//! Lemmas: what uses refer to after a renaming, what renamed tokens derive, and that renamed modules
+//! are modules.
+#![tactic(auto)]
