@@ -1,4 +1,5 @@
 pub mod Written
+pub mod Commented
 pub mod Refused
 pub mod PrintedKinds
 pub mod Forms

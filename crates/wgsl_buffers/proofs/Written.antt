@@ -13,12 +13,7 @@ use Rattle.wgsl_lex_templates.specs.Spans.{end_from}
 use Rattle.wgsl_lexer.specs.TextTokens.{StartWithKind, BeginAt}
 use Rattle.wgsl_buffers.specs.declared.lists.Place.{Place}
 use Rattle.wgsl_buffers.specs.declared.tokens.PlacedKind.{PlacedKind}
-use Rattle.wgsl_buffers.specs.Items.{count_of, HoldItems, kind_and_place, item_of_token, token_items, start_and_end, list_at, lists_before, ArePlaces}
-
--- these items are counted, and as many as fit are written
-pub record Stored {X Y : Type 0} (view : X → Y) (items : List Y) (buffer : List X) (n : ℕ) : Type 0 where
-  pub counted : n ≡ count_of (length items)
-  pub held : HoldItems view items buffer
+use Rattle.wgsl_buffers.specs.Items.{count_of, HoldItems, Stored, kind_and_place, item_of_token, token_items, start_and_end, list_at, lists_before, ArePlaces}
 
 -- at first there is none
 pub none_stored : {X Y : Type 0} (view : X → Y) (buffer : List X) → Stored view [] buffer 0
@@ -67,45 +62,28 @@ pub none_written : (all : List Token) (buffer : List PlacedKind) → Written all
 none_written all buffer = record { done = []; whole = refl; stored = none_stored kind_and_place buffer }
 
 -- one more token is stored
-pub token_more : (all left : List Token) (buffer : List PlacedKind) (n : ℕ) (kind : TokenKind) (span : Span)
-    → StartWithKind left kind → BeginAt left span → length buffer < 2 ^ 63 → n < length buffer
-    → Written all left buffer n → Written all (drop 1 left) (set buffer n
-    (record { kind = class_of_kind kind; start = span.start; end = span.end })) (min (n + 1) (2 ^ 64 - 1))
-token_more all [] buffer n kind span first at bound fits w = absurd first
-token_more all (t ∷ ts) buffer n kind span first at bound fits w =
-    let v : PlacedKind = record { kind = class_of_kind kind; start = span.start; end = span.end } in
-    let same : kind_and_place v ≡ item_of_token t = sym (λ i. (first i, at.0 i, at.1 i)) in
+pub token_next : (all left : List Token) (buffer new : List PlacedKind) (n m : ℕ) (kind : TokenKind) (span : Span)
+    → StartWithKind left kind → BeginAt left span
+    → ((items : List (ℕ × ℕ × ℕ)) → Stored kind_and_place items buffer n
+    → Stored kind_and_place (items ++ ((class_of_kind kind, span.start, span.end) ∷ [])) new m)
+    → Written all left buffer n → Written all (drop 1 left) new m
+token_next all [] buffer new n m kind span first at put w = absurd first
+token_next all (t ∷ ts) buffer new n m kind span first at put w =
+    let same : (class_of_kind kind, span.start, span.end) ≡ item_of_token t = sym (λ i. (first i, at.0 i, at.1 i)) in
     record {
       done = w.done ++ (t ∷ []);
       whole = w.whole ∙ sym (append_assoc w.done (t ∷ []) ts);
-      stored = subst (λ items. Stored kind_and_place items (set buffer n v) (min (n + 1) (2 ^ 64 - 1)))
+      stored = subst (λ items. Stored kind_and_place items new m)
           (ap (λ x. token_items w.done ++ (x ∷ [])) same ∙ sym (map-append item_of_token w.done (t ∷ [])))
-          (one_more kind_and_place (token_items w.done) buffer n v bound fits w.stored);
+          (put (token_items w.done) w.stored);
     }
-
--- one more token is counted
-pub token_beyond : (all left : List Token) (buffer : List PlacedKind) (n : ℕ) (span : Span)
-    → BeginAt left span → length buffer < 2 ^ 63 → length buffer ≤ n → Written all left buffer n
-    → Written all (drop 1 left) buffer (min (n + 1) (2 ^ 64 - 1))
-token_beyond all [] buffer n span at bound full w = absurd at
-token_beyond all (t ∷ ts) buffer n span at bound full w = record {
-  done = w.done ++ (t ∷ []);
-  whole = w.whole ∙ sym (append_assoc w.done (t ∷ []) ts);
-  stored = subst (λ items. Stored kind_and_place items buffer (min (n + 1) (2 ^ 64 - 1)))
-      (sym (map-append item_of_token w.done (t ∷ [])))
-      (one_beyond kind_and_place (token_items w.done) buffer n (item_of_token t) bound full w.stored);
-}
 
 -- where none is left, all are stored
 pub all_written : (all left : List Token) (buffer : List PlacedKind) (n : ℕ) → left ≡ []
-    → Written all left buffer n
-    → (n ≡ count_of (length all)) × HoldItems kind_and_place (token_items all) buffer
+    → Written all left buffer n → Stored kind_and_place (token_items all) buffer n
 all_written all left buffer n none w =
-    let all_done : w.done ≡ all = sym (w.whole ∙ ap (λ ts. w.done ++ ts) none ∙ append-nil w.done) in (
-      w.stored.counted ∙ ap count_of (length-map w.done item_of_token)
-          ∙ ap (λ ts. count_of (length ts)) all_done,
-      subst (λ ts. HoldItems kind_and_place (token_items ts) buffer) all_done w.stored.held,
-    )
+    let all_done : w.done ≡ all = sym (w.whole ∙ ap (λ ts. w.done ++ ts) none ∙ append-nil w.done) in
+    subst (λ ts. Stored kind_and_place (token_items ts) buffer n) all_done w.stored
 
 -- what is listed before the next place
 list_next : (spans : List Span) (start : ℕ) (found : Option ℕ) → end_from spans start ≡ found
@@ -152,5 +130,8 @@ all_places text spans valid lists = (spans, lists, ap (lists_before spans) (sym 
 -- the loop over template lists
 pub ruleset lists = (none_stored, list_more, list_beyond, list_none)
 
+-- one more item
+pub ruleset items = (one_more, one_beyond)
+
 -- the loop over tokens
-pub ruleset tokens = (token_more, token_beyond, none_written, all_written)
+pub ruleset tokens = (token_next, none_written, all_written)

@@ -21,6 +21,7 @@ use Rattle.wgsl_buffers.specs.declared.lists.Place.{Place}
 use Rattle.wgsl_buffers.specs.declared.tokens.PlacedKind.{PlacedKind}
 use Rattle.wgsl_buffers.specs.Answers.{counted, Refuses, Holds, Lacks, RefusesForm, IsNoText}
 use Rattle.wgsl_buffers.specs.Items.{count_of, counted_to, HoldItems, kind_and_place, token_items, start_and_end, ArePlaces}
+use Rattle.wgsl_buffers.specs.Comments.{AreTokensAndComments}
 use Rattle.wgsl_buffers.specs.Kinds.{IsPrint, kind_of}
 use Rattle.wgsl_buffers.specs.Trees.{tree_of, IsFormOf}
 
@@ -82,19 +83,30 @@ pub record PrintsForm (what : ℕ) (form before buffer : List ℕ) (answer : Ans
   pub status : result ≤ 5
   pub reads : Reads form answer result
 
--- the tokens of a text before its end or its first invalid token
-pub record WritesTokens (text : List ℕ) (buffer : List PlacedKind) (answer : Answer) (result : ℕ) : Type 0 where
-  pub all : result ≡ 0 → (ts : List grammar.Token) × IsTokenList (chars text) ts finished
-      × HoldItems kind_and_place (token_items ts) buffer × (answer ≡ counted (length ts))
-  pub refused : result ≡ 1 → (ts : List grammar.Token) × (span : grammar.Span)
-      × IsTokenList (chars text) ts (carried (invalid_token span))
-      × HoldItems kind_and_place (token_items ts) buffer × (answer ≡ counted_to (length ts) span)
-  pub small : result ≡ 4 → (ts : List grammar.Token) × (e : Ending) × IsTokenList (chars text) ts e
-      × HoldItems kind_and_place (token_items ts) buffer × (length buffer < length ts)
-      × (answer ≡ counted (count_of (length ts)))
+-- the items that are written of the tokens of a text before its end or its first invalid token
+pub record WritesItems (AreItems : List grammar.Token → List (ℕ × ℕ × ℕ) → Type 0)
+    (text : List ℕ) (buffer : List PlacedKind) (answer : Answer) (result : ℕ) : Type 0 where
+  pub all : result ≡ 0 → (ts : List grammar.Token) × (items : List (ℕ × ℕ × ℕ))
+      × IsTokenList (chars text) ts finished × AreItems ts items
+      × HoldItems kind_and_place items buffer × (answer ≡ counted (length items))
+  pub refused : result ≡ 1 → (ts : List grammar.Token) × (items : List (ℕ × ℕ × ℕ)) × (span : grammar.Span)
+      × IsTokenList (chars text) ts (carried (invalid_token span)) × AreItems ts items
+      × HoldItems kind_and_place items buffer × (answer ≡ counted_to (length items) span)
+  pub small : result ≡ 4 → (ts : List grammar.Token) × (items : List (ℕ × ℕ × ℕ)) × (e : Ending)
+      × IsTokenList (chars text) ts e × AreItems ts items
+      × HoldItems kind_and_place items buffer × (length buffer < length items)
+      × (answer ≡ counted (count_of (length items)))
   pub fits : result ≤ 1 → answer.size ≤ length buffer
   pub status : result ≤ 4
   pub reads : Reads text answer result
+
+-- the tokens
+abbrev pub WritesTokens : List ℕ → List PlacedKind → Answer → ℕ → Type 0
+WritesTokens text = WritesItems (λ ts items. items ≡ token_items ts) text
+
+-- the tokens and the comments between them, in the order of their places
+abbrev pub WritesTokensWithComments : List ℕ → List PlacedKind → Answer → ℕ → Type 0
+WritesTokensWithComments text = WritesItems (AreTokensAndComments (chars text) 0) text
 
 -- the places of the template lists of a text, in the order of their starts
 pub record WritesLists (text : List ℕ) (buffer : List Place) (answer : Answer) (result : ℕ) : Type 0 where

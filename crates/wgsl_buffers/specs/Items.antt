@@ -18,6 +18,11 @@ count_of n = min n (2 ^ 64 - 1)
 abbrev pub HoldItems : {X Y : Type 0} → (X → Y) → List Y → List X → Type 0
 HoldItems view items buffer = map view (take (length items) buffer) ≡ take (length buffer) items
 
+-- these items are counted, and as many as fit are at the front of the buffer
+pub record Stored {X Y : Type 0} (view : X → Y) (items : List Y) (buffer : List X) (n : ℕ) : Type 0 where
+  pub counted : n ≡ count_of (length items)
+  pub held : HoldItems view items buffer
+
 -- the number of a kind, and a place
 abbrev pub kind_and_place : PlacedKind → ℕ × ℕ × ℕ
 kind_and_place p = (p.kind, p.start, p.end)

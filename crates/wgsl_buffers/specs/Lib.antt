@@ -1,5 +1,6 @@
 pub mod Answers
 pub mod Items
+pub mod Comments
 pub mod Kinds
 pub mod Layouts
 pub mod Trees

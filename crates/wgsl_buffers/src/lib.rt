@@ -2,6 +2,7 @@
 #![tactic(auto)]
 
 mod answer;
+mod comments;
 mod fault;
 mod lists;
 mod modules;
@@ -11,6 +12,7 @@ mod tokens;
 mod trees;
 
 pub use answer::Answer;
+pub use comments::write_tokens_with_comments;
 pub use lists::{Place, begins_with_list, write_lists};
 pub use modules::{check, format, measure_nesting, recognize};
 pub use prints::print_form;

@@ -1,5 +1,5 @@
 use Rattle.wgsl_buffers.specs.Items.{start_and_end, lists_before}
-use Rattle.wgsl_buffers.proofs.Written.{Stored}
+use Rattle.wgsl_buffers.specs.Items.{Stored}
 use Rattle.wgsl_buffers.proofs.lists.fill.Given as goal
 
 abbrev pub invariant-bytes : goal.invariant-bytes
