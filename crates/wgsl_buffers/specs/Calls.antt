@@ -19,7 +19,7 @@ use Rattle.wgsl_read_nesting.specs.Nesting.{nesting}
 use Rattle.wgsl_buffers.specs.declared.answer.Answer.{Answer}
 use Rattle.wgsl_buffers.specs.declared.lists.Place.{Place}
 use Rattle.wgsl_buffers.specs.declared.tokens.PlacedKind.{PlacedKind}
-use Rattle.wgsl_buffers.specs.Answers.{counted, Refuses, Holds, Lacks, RefusesForm, IsNoText}
+use Rattle.wgsl_buffers.specs.Answers.{counted, Refuses, RefusesWithLines, Holds, Lacks, RefusesForm, IsNoText}
 use Rattle.wgsl_buffers.specs.Items.{count_of, counted_to, HoldItems, kind_and_place, token_items, start_and_end, ArePlaces}
 use Rattle.wgsl_buffers.specs.Comments.{AreTokensAndComments}
 use Rattle.wgsl_buffers.specs.Kinds.{IsPrint, kind_of}
@@ -54,6 +54,16 @@ pub record Checks (text before buffer : List ℕ) (answer : Answer) (result : �
   pub accepted : result ≡ 0 → (unit : model.TranslationUnit) × IsUnit (chars text) unit × (answer ≡ counted 0)
   pub refused : result ≡ 1 → Refuses IsFaultOf text before buffer answer
   pub status : result ≤ 3
+  pub reads : Reads text answer result
+
+-- that a text is a module, or the fault that is named, with its line, in a file with a name if that
+-- is not empty; 6 only for a name that is no text, of a text that is one
+pub record WritesSnippet (name text before buffer : List ℕ) (answer : Answer) (result : ℕ) : Type 0 where
+  pub accepted : result ≡ 0 → (unit : model.TranslationUnit) × IsUnit (chars text) unit × (answer ≡ counted 0)
+  pub refused : result ≡ 1 → RefusesWithLines IsFaultOf name text before buffer answer
+  pub bad_name : result ≡ 6 → ¬ (IsUtf8 name) × (buffer ≡ before)
+  pub named : ¬ (IsUtf8 name) → (result ≡ 2) ⊎ (result ≡ 6)
+  pub status : (result ≤ 3) ⊎ (result ≡ 6)
   pub reads : Reads text answer result
 
 -- that a text is a module of the dialect, or the fault that is named

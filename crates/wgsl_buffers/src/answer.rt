@@ -23,6 +23,9 @@ pub const TOO_SMALL: u32 = 4;
 /// No tree has the number that was asked for.
 pub const UNKNOWN: u32 = 5;
 
+/// The name of a file is not UTF-8. Nothing is written.
+pub const BAD_NAME: u32 = 6;
+
 /// The result of a call beside its status. A number that does not go with the status is 0.
 #[repr(C)]
 #[derive(Clone, Copy, Debug, PartialEq, Eq)]

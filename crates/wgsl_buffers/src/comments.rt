@@ -19,7 +19,7 @@ use wgsl_lexer::TextTokens;
 /// The number of a block comment that is not closed: no kind of a token has it.
 const OPEN_COMMENT: usize = 84;
 
-/// What is passed over at the front of a text.
+/// A blank or a comment that is passed over at the front of a text.
 #[derive(Clone, Copy)]
 struct Passed<'s> {
     /// The number of a comment's kind, and none for a blank.
@@ -107,8 +107,8 @@ fn fill(source: &str, left: &mut TextTokens, buffer: &mut [PlacedKind]) -> usize
     put_comments(total, &source[at..], buffer, count)
 }
 
-/// The tokens of a text and the comments between them, in order: as many as fit, and how many there
-/// are. A line comment ends before its line break, and a block comment that is not closed at the
+/// Writes the tokens of a text and the comments between them, in order: as many as fit, and how many
+/// there are. A line comment ends before its line break, and a block comment that is not closed at the
 /// end of the text. Where text that is no token ends the tokens, the text is refused, with its
 /// place, and the comments before it are the last items.
 pub fn write_tokens_with_comments(

@@ -3,7 +3,7 @@
 ghost use Rattle.std.specs.Prelude.{◌≡◌, ◌⊎◌, ◌++◌, IfOk, OnOk, map, flat_map, string_bytes};
 ghost use Rattle.wgsl_error.specs.View.{kind_number, expected_texts};
 ghost use Rattle.wgsl_error.specs.declared.ErrorKind.TheVariants as kinds;
-ghost use Rattle.wgsl_buffers.specs.Answers.{counted, nul_terminated, fault_texts, RefusesForm, TellsError};
+ghost use Rattle.wgsl_buffers.specs.Answers.{counted, nul_terminated, fault_texts, RefusesForm, TellsError, TellsTexts};
 
 use crate::answer::{Answer, REFUSED, give, refuse_memory};
 use std::alloc::{AllocError, Global};
@@ -62,7 +62,23 @@ fn texts_of(alloc: Global, kind: &ErrorKind) -> Result<String, AllocError>
     Ok(texts)
 }
 
-/// Reports an error, and returns the status.
+/// Reports an error with these texts, and returns the status.
+pub fn tell_texts(error: &Error, texts: &str, buffer: &mut [u8], answer: &mut Answer) -> u32
+    ensures status { result ≡ 1 }
+    ensures told { TellsTexts texts.now error.now buffer.old buffer.new answer.new }
+{
+    *answer = Answer {
+        size: texts.len(),
+        start: error.span.start,
+        end: error.span.end,
+        kind: number_of(&error.error),
+        expected: expected_of(&error.error).len(),
+    };
+    give(texts.as_bytes(), buffer);
+    REFUSED
+}
+
+/// Reports an error with its message and what was expected, and returns the status.
 pub fn tell_error(alloc: Global, error: Error, buffer: &mut [u8], answer: &mut Answer) -> u32
     ensures refused { result ≡ 1 → TellsError error buffer.old buffer.new answer.new }
     ensures named { result ≡ 1 → ¬ (error.error ≡ kinds.OutOfMemory) }
@@ -75,15 +91,7 @@ pub fn tell_error(alloc: Global, error: Error, buffer: &mut [u8], answer: &mut A
     let Ok(texts) = texts_of(alloc, &error.error) else {
         return refuse_memory(answer);
     };
-    *answer = Answer {
-        size: texts.len(),
-        start: error.span.start,
-        end: error.span.end,
-        kind: number_of(&error.error),
-        expected: expected_of(&error.error).len(),
-    };
-    give(texts.as_bytes(), buffer);
-    REFUSED
+    tell_texts(&error, texts.as_str(), buffer, answer)
 }
 
 /// Reports an error of a text form, and returns the status.

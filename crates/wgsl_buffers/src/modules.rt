@@ -30,7 +30,7 @@ fn printed(alloc: Global, source: &str) -> Result<String, Error>
 }
 
 /// Whether a text is a module, whose tree is let go.
-fn checked(alloc: Global, source: &str) -> Result<(), Error>
+pub(crate) fn checked(alloc: Global, source: &str) -> Result<(), Error>
     ensures accepted { IfOk result (λ _.
         (unit : model.TranslationUnit) × IsUnit (chars source.now) unit) }
     ensures refused { IfErr result (λ e.

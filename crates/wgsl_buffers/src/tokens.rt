@@ -57,8 +57,8 @@ fn fill(left: &mut TextTokens, buffer: &mut [PlacedKind]) -> usize
     count
 }
 
-/// Returns how many items were written of a text whose tokens are taken, if all fit into a buffer
-/// of a size; and the place of an invalid token that ended them.
+/// Reports how many items there are of a text whose tokens are taken, and the place of an invalid
+/// token that ended them, and returns the status by the size of the buffer.
 pub(crate) fn tell_items(left: &TextTokens, count: usize, size: usize, answer: &mut Answer) -> u32
     requires { tokens_left left.now ≡ [] }
     ensures all { result ≡ 0 → (ending_left left.now ≡ finished) × (answer.new ≡ counted count) }
