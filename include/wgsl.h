@@ -19,13 +19,13 @@
  *
  * What a caller must see to, since no call can test it: the bytes of a text can be read, and do not
  * change until the call returns; the buffer and the answer can be written, whatever they hold; the
- * text, the buffer and the answer do not overlap; and there is enough stack. A text nests as deep
- * as its brackets, blocks, template lists and prefix operators do, and each takes stack while the
- * text is read: as measured over wgsl_recognize, wgsl_check, wgsl_format and wgsl_tree, at most
- * 2,750 bytes for a block with its statement and 1,200 for each other, and in wgsl_tidy 1,250 for
- * each. wgsl_nesting returns how deep a text nests, and takes no such stack. In wgsl_print
- * each node inside another takes at most 5,700 bytes for a block with its statement and 2,300 for
- * each other. A left operand, and what is before a component or an index, takes none.
+ * text, the name of its file, the buffer and the answer do not overlap; and there is enough stack.
+ * A text nests as deep as its brackets, blocks, template lists and prefix operators do, and each
+ * takes stack while the text is read: as measured over wgsl_recognize, wgsl_check, wgsl_format and
+ * wgsl_tree, at most 2,750 bytes for a block with its statement and 1,200 for each other, and in
+ * wgsl_tidy 1,250 for each. wgsl_nesting returns how deep a text nests, and takes no such stack. In
+ * wgsl_print each node inside another takes at most 5,700 bytes for a block with its statement and
+ * 2,300 for each other. A left operand, and what is before a component or an index, takes none.
  *
  * Memory. While it runs, a call takes memory by the program's malloc, realloc and free, and gives
  * all of it back before it returns. Where they fail, the status is WGSL_OUT_OF_MEMORY. The three
@@ -51,8 +51,8 @@ enum wgsl_status {
     /* The text is refused. The answer has the kind and the place of the fault. If its texts fit
      * into the buffer, as they do if `size` is at most the size of the buffer, they are there: the
      * message and then each text of what was expected, each with a byte 0 after it; otherwise the
-     * buffer does not change. wgsl_tokens gives no texts: its message is
-     * WGSL_INVALID_TOKEN_MESSAGE. */
+     * buffer does not change. wgsl_snippet gives lines instead of these texts; wgsl_tokens and
+     * wgsl_tokens_with_comments give none: their message is WGSL_INVALID_TOKEN_MESSAGE. */
     WGSL_REFUSED = 1,
     /* The bytes are not UTF-8: `start` is the first place where they stop being so. */
     WGSL_NOT_UTF8 = 2,
@@ -61,7 +61,8 @@ enum wgsl_status {
     WGSL_TOO_SMALL = 4,
     /* No tree has the number that was asked for. */
     WGSL_UNKNOWN = 5,
-    /* A null pointer where memory is wanted, or a number that no memory has. */
+    /* A null pointer where memory is wanted, a number that no memory has, or a name of a file that
+     * is not UTF-8. */
     WGSL_BAD_ARGUMENT = 6
 };
 
@@ -102,7 +103,7 @@ struct wgsl_answer {
     size_t expected;
 };
 
-/* A token: one of enum wgsl_token_kind, and where it starts and ends. */
+/* A token or a comment: one of enum wgsl_token_kind, and where it starts and ends. */
 struct wgsl_token {
     size_t kind;
     size_t start;
@@ -158,7 +159,8 @@ enum wgsl_tree_kind {
     WGSL_TYPE_CONSTRAINT = 16
 };
 
-/* The kinds of tokens, written by tools/tables/tokens.py. No call gives a comment. */
+/* The kinds of tokens and comments, written by tools/tables/tokens.py. Only
+ * wgsl_tokens_with_comments gives comments. */
 enum wgsl_token_kind {
     WGSL_SYM_AND = 0,
     WGSL_SYM_AND_AND = 1,
@@ -243,7 +245,8 @@ enum wgsl_token_kind {
     WGSL_TEMPLATE_ARGS_START = 80,
     WGSL_TEMPLATE_ARGS_END = 81,
     WGSL_LINE_COMMENT = 82,
-    WGSL_BLOCK_COMMENT = 83
+    WGSL_BLOCK_COMMENT = 83,
+    WGSL_OPEN_COMMENT = 84
 };
 
 /* The exports of the library, which the functions below call. They are for languages that read no
@@ -255,6 +258,8 @@ uint32_t wgsl_c_tidy(const struct wgsl_layout *layout, const uint8_t *text, size
                      uint8_t *buffer, size_t buffer_size, struct wgsl_answer *answer);
 uint32_t wgsl_c_check(const uint8_t *text, size_t size, uint8_t *buffer, size_t buffer_size,
                       struct wgsl_answer *answer);
+uint32_t wgsl_c_snippet(const uint8_t *name, size_t name_size, const uint8_t *text, size_t size,
+                        uint8_t *buffer, size_t buffer_size, struct wgsl_answer *answer);
 uint32_t wgsl_c_recognize(const uint8_t *text, size_t size, uint8_t *buffer, size_t buffer_size,
                           struct wgsl_answer *answer);
 uint32_t wgsl_c_tree(uint32_t kind, const uint8_t *text, size_t size, uint8_t *buffer,
@@ -263,6 +268,8 @@ uint32_t wgsl_c_print(uint32_t kind, const uint8_t *form, size_t size, uint8_t *
                       size_t buffer_size, struct wgsl_answer *answer);
 uint32_t wgsl_c_tokens(const uint8_t *text, size_t size, struct wgsl_token *buffer,
                        size_t buffer_size, struct wgsl_answer *answer);
+uint32_t wgsl_c_tokens_with_comments(const uint8_t *text, size_t size, struct wgsl_token *buffer,
+                                     size_t buffer_size, struct wgsl_answer *answer);
 uint32_t wgsl_c_lists(const uint8_t *text, size_t size, struct wgsl_place *buffer,
                       size_t buffer_size, struct wgsl_answer *answer);
 uint32_t wgsl_c_begins_with_list(const uint8_t *text, size_t size, struct wgsl_answer *answer);
@@ -323,6 +330,33 @@ static inline uint32_t wgsl_check(const char *text, size_t size, char *buffer, s
                         buffer_size, answer);
 }
 
+/* Checks whether a text is a module, as wgsl_check does. If it is not, the buffer is for lines that
+ * show the fault, with a byte 0 after them:
+ *
+ *     error: unexpected token `=`, expected `identifier`
+ *      --> line 2, column 7
+ *     const = 2;
+ *           ^
+ *
+ * or, if the name of the file has bytes, as compilers print it, without what was expected:
+ *
+ *     waves.wgsl:2:7: error: unexpected token `=`
+ *     const = 2;
+ *           ^
+ *
+ * A line ends with a line feed, columns are counted in characters, and each character that is
+ * marked has a `^`. */
+static inline uint32_t wgsl_snippet(const char *name, size_t name_size, const char *text,
+                                    size_t size, char *buffer, size_t buffer_size,
+                                    struct wgsl_answer *answer) {
+    if (!wgsl_is_memory(name, name_size, 1) || !wgsl_is_memory(text, size, 1)
+        || !wgsl_is_memory(buffer, buffer_size, 1) || answer == NULL) {
+        return WGSL_BAD_ARGUMENT;
+    }
+    return wgsl_c_snippet((const uint8_t *)wgsl_at(name), name_size, (const uint8_t *)wgsl_at(text),
+                          size, (uint8_t *)wgsl_at(buffer), buffer_size, answer);
+}
+
 /* Checks whether a text is a module of the smaller dialect in which names are identifiers alone and
  * nothing is checked: as wgsl_check. */
 static inline uint32_t wgsl_recognize(const char *text, size_t size, char *buffer,
@@ -376,9 +410,25 @@ static inline uint32_t wgsl_tokens(const char *text, size_t size, struct wgsl_to
                          buffer_size, answer);
 }
 
+/* Writes the tokens of a text and the comments between them, in order, into a buffer for tokens. A
+ * line comment ends before its line break, a block comment after its last sign, and one that is not
+ * closed (WGSL_OPEN_COMMENT) at the end of the text. WGSL_REFUSED as in wgsl_tokens: the comments
+ * before the text that is no token are the last items. Where the buffer is too small it holds the
+ * first ones. */
+static inline uint32_t wgsl_tokens_with_comments(const char *text, size_t size,
+                                                 struct wgsl_token *buffer, size_t buffer_size,
+                                                 struct wgsl_answer *answer) {
+    if (!wgsl_is_memory(text, size, 1) || !wgsl_is_memory(buffer, buffer_size, sizeof *buffer)
+        || answer == NULL) {
+        return WGSL_BAD_ARGUMENT;
+    }
+    return wgsl_c_tokens_with_comments((const uint8_t *)wgsl_at(text), size,
+                                       (struct wgsl_token *)wgsl_at(buffer), buffer_size, answer);
+}
+
 /* Writes the template lists of a text into a buffer for places: each from its `<` to after its `>`,
- * in the order of their starts. They are found in comments too. Where the buffer is too small it
- * holds the first ones. */
+ * in the order of their starts. They are found in comments too. A `<` at which none of them starts
+ * begins no template list. Where the buffer is too small it holds the first ones. */
 static inline uint32_t wgsl_template_lists(const char *text, size_t size, struct wgsl_place *buffer,
                                            size_t buffer_size, struct wgsl_answer *answer) {
     if (!wgsl_is_memory(text, size, 1) || !wgsl_is_memory(buffer, buffer_size, sizeof *buffer)
@@ -408,9 +458,8 @@ static inline uint32_t wgsl_nesting(const char *text, size_t size, struct wgsl_a
     return wgsl_c_nesting((const uint8_t *)wgsl_at(text), size, answer);
 }
 
-/* Returns the name of a kind of token, as the libraries for Rust and Rattle have it, such as
- * "SymAnd" of WGSL_SYM_AND, or null if no kind has the number. Written by
- * tools/tables/tokens.py. */
+/* Returns the name of a kind of token or comment, as the library for Rust has it, such as "SymAnd"
+ * of WGSL_SYM_AND, or null if no kind has the number. Written by tools/tables/tokens.py. */
 static inline const char *wgsl_token_kind_name(size_t kind) {
     static const char *const names[] = {
         "SymAnd", "SymAndAnd", "SymArrow", "SymAttr", "SymForwardSlash", "SymBang",
@@ -426,7 +475,7 @@ static inline const char *wgsl_token_kind_name(size_t kind) {
         "KwElse", "KwEnable", "KwFalse", "KwFn", "KwFor", "KwIf", "KwLet", "KwLoop", "KwOverride",
         "KwRequires", "KwReturn", "KwStruct", "KwSwitch", "KwTrue", "KwVar", "KwWhile", "Ident",
         "ReservedWord", "AbstractInt", "I32", "U32", "AbstractFloat", "F32", "F16",
-        "TemplateArgsStart", "TemplateArgsEnd", "LineComment", "BlockComment"
+        "TemplateArgsStart", "TemplateArgsEnd", "LineComment", "BlockComment", "OpenComment"
     };
     return kind < sizeof names / sizeof *names ? names[kind] : NULL;
 }

@@ -27,6 +27,9 @@ EMPTY = {"String": "String::new(alloc)", "i64": "0", "i32": "0", "u32": "0"}
 PAYLOADS = {"String": "name (string_bytes held)", "i64": "number held", "i32": "number held",
             "u32": "number (pos held)"}
 
+# the kind for C and Rust that no token has: its name, and what it is
+OPEN_COMMENT = ("OpenComment", "a block comment that is not closed")
+
 
 def defined(doc, name, kind, items):
     """A definition of a list, some items a line."""
@@ -197,14 +200,15 @@ def token_table(table):
 
 
 def write_bindings(table):
-    """The kinds of tokens of the Rust crate and of the header, there with their names."""
-    kinds = [f"    /// {token.doc[0].upper()}{token.doc[1:]}.\n    {token.name},"
-             for token in table.tokens]
+    """The kinds of tokens and comments of the Rust crate and of the header, there with their
+    names."""
+    named = [*((token.name, token.doc) for token in table.tokens), OPEN_COMMENT]
+    kinds = [f"    /// {doc[0].upper()}{doc[1:]}.\n    {name}," for name, doc in named]
     numbers = [f"    WGSL_{snake(name).upper()} = {number}"
-               for number, name in enumerate(table.classes)]
+               for number, (name, _) in enumerate(named)]
     fill(RUST_KINDS, "\nkinds! {\n", "\n".join([f"    // {WRITTEN}.", *kinds]), "\n}\n")
     fill(HEADER, "\nenum wgsl_token_kind {\n", ",\n".join(numbers), "\n};\n")
-    names = textwrap.fill(", ".join(f'"{name}"' for name in table.classes), 92)
+    names = textwrap.fill(", ".join(f'"{name}"' for name, _ in named), 92)
     names = textwrap.indent(names, " " * 8)
     fill(HEADER, "\n    static const char *const names[] = {\n", names, "\n    };\n")
 

@@ -187,4 +187,6 @@ kinds! {
     LineComment,
     /// A block comment.
     BlockComment,
+    /// A block comment that is not closed.
+    OpenComment,
 }

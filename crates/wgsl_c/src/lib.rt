@@ -3,7 +3,7 @@
 //! what a caller owes.
 #![tactic(auto)]
 
-ghost use Rattle.wgsl_buffers.specs.Calls.{Formats, Tidies, Checks, Recognizes, WritesTree, PrintsForm, WritesTokens, WritesLists, FindsList, MeasuresNesting};
+ghost use Rattle.wgsl_buffers.specs.Calls.{Formats, Tidies, Checks, WritesSnippet, Recognizes, WritesTree, PrintsForm, WritesTokens, WritesTokensWithComments, WritesLists, FindsList, MeasuresNesting};
 ghost use Rattle.wgsl_buffers.specs.Layouts.{layout_of};
 
 use std::alloc::Global;
@@ -47,6 +47,21 @@ pub extern "C" fn wgsl_c_check(
     ensures { Checks text.now buffer.old buffer.new answer.new result }
 {
     wgsl_buffers::check(alloc, text, buffer, answer)
+}
+
+/// Checks whether a text is a module, and if it is not, writes its fault with the line in which it
+/// starts, in a file with a name if that is not empty.
+#[unsafe(no_mangle)]
+pub extern "C" fn wgsl_c_snippet(
+    alloc: Global,
+    name: &[u8],
+    text: &[u8],
+    buffer: &mut [u8],
+    answer: &mut Answer,
+) -> u32
+    ensures { WritesSnippet name.now text.now buffer.old buffer.new answer.new result }
+{
+    wgsl_buffers::write_snippet(alloc, name, text, buffer, answer)
 }
 
 /// Checks whether a text is a module of the dialect.
@@ -106,6 +121,19 @@ pub extern "C" fn wgsl_c_tokens(
     ensures { WritesTokens text.now buffer.new answer.new result }
 {
     wgsl_buffers::write_tokens(alloc, text, buffer, answer)
+}
+
+/// Writes the tokens of a text and the comments between them, as many as fit.
+#[unsafe(no_mangle)]
+pub extern "C" fn wgsl_c_tokens_with_comments(
+    alloc: Global,
+    text: &[u8],
+    buffer: &mut [PlacedKind],
+    answer: &mut Answer,
+) -> u32
+    ensures { WritesTokensWithComments text.now buffer.new answer.new result }
+{
+    wgsl_buffers::write_tokens_with_comments(alloc, text, buffer, answer)
 }
 
 /// Writes the places of the template lists of a text, as many as fit.
