@@ -32,7 +32,24 @@ static uint32_t tidy(const char *text, size_t size, char *buffer, size_t buffer_
     return wgsl_tidy(NULL, text, size, buffer, buffer_size, said);
 }
 
-static text_call *const text_calls[] = {wgsl_format, tidy, wgsl_check, wgsl_recognize, tree};
+static uint32_t snippet(const char *text, size_t size, char *buffer, size_t buffer_size,
+                        struct wgsl_answer *said) {
+    return wgsl_snippet(NULL, 0, text, size, buffer, buffer_size, said);
+}
+
+static uint32_t snippet_in_file(const char *text, size_t size, char *buffer, size_t buffer_size,
+                                struct wgsl_answer *said) {
+    return wgsl_snippet("f.wgsl", 6, text, size, buffer, buffer_size, said);
+}
+
+/* Each with the first byte of what it writes of a text that ends too early. */
+static const struct {
+    text_call *call;
+    char first;
+} text_calls[] = {
+    {wgsl_format, 'u'},    {tidy, 'u'}, {wgsl_check, 'u'}, {snippet, 'e'}, {snippet_in_file, 'f'},
+    {wgsl_recognize, 'u'}, {tree, 'u'},
+};
 
 /* Returns whether a buffer is as it was filled: with one byte again and again. */
 static int is_filled(const char *buffer, size_t size) {
@@ -46,7 +63,7 @@ static int check_text_calls(void) {
     char buffer[256];
     size_t at;
     for (at = 0; at < sizeof text_calls / sizeof *text_calls; at++) {
-        text_call *call = text_calls[at];
+        text_call *call = text_calls[at].call;
         memset(buffer, '#', sizeof buffer);
         CHECK(call(NULL, 1, buffer, sizeof buffer, &answer) == WGSL_BAD_ARGUMENT);
         CHECK(call("", SIZE_MAX, buffer, sizeof buffer, &answer) == WGSL_BAD_ARGUMENT);
@@ -60,7 +77,8 @@ static int check_text_calls(void) {
         CHECK(answer.expected > 0 && answer.size > 0 && answer.size <= sizeof buffer);
         CHECK(call("const", 5, buffer, answer.size - 1, &answer) == WGSL_REFUSED);
         CHECK(is_filled(buffer, sizeof buffer));
-        CHECK(call("const", 5, buffer, answer.size, &answer) == WGSL_REFUSED && buffer[0] == 'u');
+        CHECK(call("const", 5, buffer, answer.size, &answer) == WGSL_REFUSED);
+        CHECK(buffer[0] == text_calls[at].first && strlen(buffer) < answer.size);
         CHECK(buffer[answer.size - 1] == 0);
         CHECK(is_filled(buffer + answer.size, sizeof buffer - answer.size));
     }
@@ -77,6 +95,13 @@ static int check_other_calls(void) {
     CHECK(wgsl_tokens("a", 1, tokens, WGSL_GREATEST, &answer) == WGSL_BAD_ARGUMENT);
     CHECK(wgsl_tokens("a", 1, tokens, 2, NULL) == WGSL_BAD_ARGUMENT);
     CHECK(wgsl_tokens("\xc3", 1, tokens, 2, &answer) == WGSL_NOT_UTF8 && is_answer(0, 0, 0, 0, 0));
+    CHECK(wgsl_tokens_with_comments(NULL, 1, tokens, 2, &answer) == WGSL_BAD_ARGUMENT);
+    CHECK(wgsl_tokens_with_comments("", SIZE_MAX, tokens, 2, &answer) == WGSL_BAD_ARGUMENT);
+    CHECK(wgsl_tokens_with_comments("a", 1, NULL, 1, &answer) == WGSL_BAD_ARGUMENT);
+    CHECK(wgsl_tokens_with_comments("a", 1, tokens, WGSL_GREATEST, &answer) == WGSL_BAD_ARGUMENT);
+    CHECK(wgsl_tokens_with_comments("a", 1, tokens, 2, NULL) == WGSL_BAD_ARGUMENT);
+    CHECK(wgsl_tokens_with_comments("//\xc3", 3, tokens, 2, &answer) == WGSL_NOT_UTF8);
+    CHECK(is_answer(0, 2, 2, 0, 0));
     CHECK(wgsl_template_lists(NULL, 1, lists, 2, &answer) == WGSL_BAD_ARGUMENT);
     CHECK(wgsl_template_lists("", SIZE_MAX, lists, 2, &answer) == WGSL_BAD_ARGUMENT);
     CHECK(wgsl_template_lists("a", 1, NULL, 1, &answer) == WGSL_BAD_ARGUMENT);
@@ -104,6 +129,8 @@ static int check_no_bytes(void) {
     CHECK(wgsl_check(NULL, 0, NULL, 0, &answer) == WGSL_DONE);
     CHECK(wgsl_recognize(NULL, 0, NULL, 0, &answer) == WGSL_DONE);
     CHECK(wgsl_tokens(NULL, 0, NULL, 0, &answer) == WGSL_DONE && answer.size == 0);
+    CHECK(wgsl_tokens_with_comments(NULL, 0, NULL, 0, &answer) == WGSL_DONE && is_size(0));
+    CHECK(snippet(NULL, 0, NULL, 0, &answer) == WGSL_DONE && is_size(0));
     CHECK(wgsl_template_lists(NULL, 0, NULL, 0, &answer) == WGSL_DONE && answer.size == 0);
     CHECK(wgsl_begins_with_template_list(NULL, 0, &answer) == WGSL_DONE && answer.size == 0);
     CHECK(wgsl_nesting(NULL, 0, &answer) == WGSL_DONE && answer.size == 0);
@@ -180,6 +207,59 @@ static int check_faults(void) {
     return 0;
 }
 
+static uint32_t show(const char *name, const char *text, char *buffer, size_t buffer_size) {
+    return wgsl_snippet(name, strlen(name), text, strlen(text), buffer, buffer_size, &answer);
+}
+
+/* Returns whether a fault is shown by these lines, with their byte 0, in a buffer that they fit
+ * into, and a smaller one does not change. */
+static int is_shown(const char *name, const char *text, const char *lines) {
+    char buffer[256];
+    size_t size = strlen(lines) + 1;
+    memset(buffer, '#', sizeof buffer);
+    return show(name, text, buffer, size - 1) == WGSL_REFUSED && answer.size == size
+        && is_filled(buffer, sizeof buffer) && show(name, text, buffer, sizeof buffer) == WGSL_REFUSED
+        && answer.size == size && memcmp(buffer, lines, size) == 0
+        && is_filled(buffer + size, sizeof buffer - size);
+}
+
+/* The lines that show a fault have its line with a mark below each of its characters. */
+static int check_snippets(void) {
+    static const char text[] = "const a = 1;\nconst = 2;\n";
+    CHECK(is_shown("", text,
+                   "error: unexpected token `=`, expected `identifier`\n --> line 2, column 7\n"
+                   "const = 2;\n      ^"));
+    CHECK(is_answer(answer.size, 19, 20, WGSL_UNEXPECTED_TOKEN, 1));
+    CHECK(is_shown("s/a b.wgsl", text,
+                   "s/a b.wgsl:2:7: error: unexpected token `=`\nconst = 2;\n      ^"));
+    CHECK(is_answer(answer.size, 19, 20, WGSL_UNEXPECTED_TOKEN, 1));
+    CHECK(is_shown("", "/*\xc3\xa9*/ #",
+                   "error: invalid token\n --> line 1, column 7\n/*\xc3\xa9*/ #\n      ^"));
+    CHECK(is_answer(answer.size, 7, 8, WGSL_INVALID_TOKEN, 0));
+    CHECK(is_shown("\xc3\xa9", "const class = 1;",
+                   "\xc3\xa9:1:7: error: use of a reserved word `class`\nconst class = 1;\n"
+                   "      ^^^^^"));
+    CHECK(is_shown("f", "const", "f:1:6: error: unexpected end of file\nconst\n     ^"));
+    return 0;
+}
+
+/* A module has no lines, and the name of a file has to be UTF-8 and memory. */
+static int check_names_of_files(void) {
+    char buffer[64];
+    memset(buffer, '#', sizeof buffer);
+    CHECK(snippet_in_file("const N = 1;", 12, buffer, sizeof buffer, &answer) == WGSL_DONE);
+    CHECK(is_size(0));
+    answer.size = 9;
+    CHECK(wgsl_snippet("a\xff", 2, "1", 1, buffer, sizeof buffer, &answer) == WGSL_BAD_ARGUMENT);
+    CHECK(wgsl_snippet("\xff", 1, "", 0, buffer, sizeof buffer, &answer) == WGSL_BAD_ARGUMENT);
+    CHECK(wgsl_snippet(NULL, 1, "1", 1, buffer, sizeof buffer, &answer) == WGSL_BAD_ARGUMENT);
+    CHECK(wgsl_snippet("", SIZE_MAX, "1", 1, buffer, sizeof buffer, &answer) == WGSL_BAD_ARGUMENT);
+    CHECK(is_size(9) && is_filled(buffer, sizeof buffer));
+    CHECK(wgsl_snippet("\xff", 1, "\xff", 1, buffer, sizeof buffer, &answer) == WGSL_NOT_UTF8);
+    CHECK(is_size(0) && is_filled(buffer, sizeof buffer));
+    return 0;
+}
+
 static int is_token(const struct wgsl_token *token, size_t kind, size_t start, size_t end) {
     return token->kind == kind && token->start == start && token->end == end;
 }
@@ -201,6 +281,35 @@ static int check_tokens(void) {
     CHECK(wgsl_tokens("a #", 3, tokens, 8, &answer) == WGSL_REFUSED);
     CHECK(is_answer(1, 2, 3, WGSL_INVALID_TOKEN, 0));
     CHECK(wgsl_tokens("a #", 3, tokens, 0, &answer) == WGSL_TOO_SMALL && is_size(1));
+    return 0;
+}
+
+/* Comments are among the tokens, each with its kind and place, up to the first invalid token. */
+static int check_comments(void) {
+    struct wgsl_token items[9];
+    items[4].kind = items[4].start = items[4].end = 9;
+    CHECK(wgsl_tokens_with_comments(" /*a*/ b//c\n/* d", 16, items, 3, &answer) == WGSL_TOO_SMALL);
+    CHECK(is_size(4) && is_token(items, WGSL_BLOCK_COMMENT, 1, 6));
+    CHECK(is_token(items + 1, WGSL_IDENT, 7, 8) && is_token(items + 2, WGSL_LINE_COMMENT, 8, 11));
+    CHECK(wgsl_tokens_with_comments(" /*a*/ b//c\n/* d", 16, items, 4, &answer) == WGSL_DONE);
+    CHECK(is_size(4) && is_token(items + 3, WGSL_OPEN_COMMENT, 12, 16));
+    CHECK(is_token(items + 4, 9, 9, 9));
+    CHECK(wgsl_tokens_with_comments("a//b \r\n/*/**/*/c", 16, items, 9, &answer) == WGSL_DONE);
+    CHECK(is_size(4) && is_token(items + 1, WGSL_LINE_COMMENT, 1, 5));
+    CHECK(is_token(items + 2, WGSL_BLOCK_COMMENT, 7, 15));
+    CHECK(is_token(items + 3, WGSL_IDENT, 15, 16));
+    CHECK(wgsl_tokens_with_comments("a<b<c>/**/>//", 13, items, 9, &answer) == WGSL_DONE);
+    CHECK(is_size(9) && is_token(items + 5, WGSL_TEMPLATE_ARGS_END, 5, 6));
+    CHECK(is_token(items + 6, WGSL_BLOCK_COMMENT, 6, 10));
+    CHECK(is_token(items + 7, WGSL_TEMPLATE_ARGS_END, 10, 11));
+    CHECK(is_token(items + 8, WGSL_LINE_COMMENT, 11, 13));
+    CHECK(wgsl_tokens_with_comments("/*a*/ # // b", 12, items, 9, &answer) == WGSL_REFUSED);
+    CHECK(is_answer(1, 6, 7, WGSL_INVALID_TOKEN, 0));
+    CHECK(is_token(items, WGSL_BLOCK_COMMENT, 0, 5));
+    CHECK(is_token(items + 1, WGSL_TEMPLATE_ARGS_START, 1, 2));
+    CHECK(wgsl_tokens_with_comments("/*/", 3, items, 1, &answer) == WGSL_DONE && is_size(1));
+    CHECK(is_token(items, WGSL_OPEN_COMMENT, 0, 3));
+    CHECK(wgsl_tokens_with_comments("// b", 4, NULL, 0, &answer) == WGSL_TOO_SMALL && is_size(1));
     return 0;
 }
 
@@ -325,7 +434,8 @@ static int check_names(void) {
     CHECK(strcmp(wgsl_token_kind_name(WGSL_KW_CONST_ASSERT), "KwConstAssert") == 0);
     CHECK(strcmp(wgsl_token_kind_name(WGSL_F16), "F16") == 0);
     CHECK(strcmp(wgsl_token_kind_name(WGSL_BLOCK_COMMENT), "BlockComment") == 0);
-    CHECK(wgsl_token_kind_name(WGSL_BLOCK_COMMENT + 1) == NULL);
+    CHECK(strcmp(wgsl_token_kind_name(WGSL_OPEN_COMMENT), "OpenComment") == 0);
+    CHECK(wgsl_token_kind_name(WGSL_OPEN_COMMENT + 1) == NULL);
     CHECK(wgsl_token_kind_name(SIZE_MAX) == NULL);
     return 0;
 }
@@ -341,9 +451,10 @@ static int check_message(void) {
 
 static int (*const checks[])(void) = {
     check_text_calls, check_other_calls,   check_no_bytes,        check_buffers,
-    check_layouts,    check_faults,        check_tokens,          check_lists,
-    check_trees,      check_prints,        check_refused_forms,   check_print_arguments,
-    check_positions,  check_names,         check_message,
+    check_layouts,    check_faults,        check_snippets,        check_names_of_files,
+    check_tokens,     check_comments,      check_lists,           check_trees,
+    check_prints,     check_refused_forms, check_print_arguments, check_positions,
+    check_names,      check_message,
 };
 
 int main(void) {

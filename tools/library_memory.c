@@ -51,7 +51,8 @@ struct said {
     size_t buffer[4096];
 };
 
-enum { FORMAT, TIDIED, CHECKED, RECOGNIZED, TOKENS, LISTS, BEGINS, NESTING, TREES };
+enum { FORMAT, TIDIED, CHECKED, SNIPPET, IN_FILE, RECOGNIZED, TOKENS, COMMENTS, LISTS, BEGINS };
+enum { NESTING = BEGINS + 1, TREES };
 enum { PRINTS = TREES + WGSL_EXPRESSION + 1, CALLS = PRINTS + WGSL_TYPE_CONSTRAINT + 1 };
 
 /* Makes a call; those from TREES on ask for the kinds of trees, one after another, and those from
@@ -68,10 +69,17 @@ static uint32_t make(int call, const char *text, size_t size, struct said *said)
         return wgsl_tidy(NULL, text, size, buffer, buffer_size, &said->answer);
     case CHECKED:
         return wgsl_check(text, size, buffer, buffer_size, &said->answer);
+    case SNIPPET:
+        return wgsl_snippet(NULL, 0, text, size, buffer, buffer_size, &said->answer);
+    case IN_FILE:
+        return wgsl_snippet("f.wgsl", 6, text, size, buffer, buffer_size, &said->answer);
     case RECOGNIZED:
         return wgsl_recognize(text, size, buffer, buffer_size, &said->answer);
     case TOKENS:
         return wgsl_tokens(text, size, tokens, buffer_size / sizeof *tokens, &said->answer);
+    case COMMENTS:
+        return wgsl_tokens_with_comments(text, size, tokens, buffer_size / sizeof *tokens,
+                                         &said->answer);
     case LISTS:
         return wgsl_template_lists(text, size, places, buffer_size / sizeof *places, &said->answer);
     case BEGINS:
