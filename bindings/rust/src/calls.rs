@@ -126,7 +126,7 @@ pub fn parse(text: &str) -> Result<TranslationUnit, Fault> {
     text.parse()
 }
 
-/// A token of a text: what it is, and where it is, in bytes.
+/// A token or a comment of a text: what it is, and where it is, in bytes.
 #[derive(Clone, Copy, Debug, PartialEq, Eq, Hash)]
 pub struct Token {
     /// Which token it is.
@@ -152,9 +152,39 @@ pub struct Token {
 /// # Ok::<(), centrelilac::Fault>(())
 /// ```
 pub fn tokens(text: &str) -> Result<Vec<Token>, Fault> {
+    listed(text, false)
+}
+
+/// Returns the tokens of a text and the comments between them, in order. A line comment ends before
+/// its line break, a block comment after its last sign, and one that is not closed
+/// ([`TokenKind::OpenComment`]) at the end of the text.
+///
+/// # Errors
+///
+/// The first invalid token, or that allocation fails.
+///
+/// # Examples
+///
+/// ```
+/// use centrelilac::TokenKind;
+///
+/// let text = "a /* b */ + // c";
+/// let items = centrelilac::tokens_with_comments(text)?;
+/// let comments = items.iter().filter(|item| item.kind.is_comment());
+/// let comments: Vec<_> = comments.map(|item| &text[item.span.range()]).collect();
+/// assert_eq!(comments, ["/* b */", "// c"]);
+/// assert_eq!(items[1].kind, TokenKind::BlockComment);
+/// # Ok::<(), centrelilac::Fault>(())
+/// ```
+pub fn tokens_with_comments(text: &str) -> Result<Vec<Token>, Fault> {
+    listed(text, true)
+}
+
+/// Returns the tokens of a text, with the comments between them or without.
+fn listed(text: &str, comments: bool) -> Result<Vec<Token>, Fault> {
     let mut room = vec![PlacedKind::default(); text.len() / 3 + 16];
     loop {
-        let Said { status, answer } = tokens_call(text, &mut room);
+        let Said { status, answer } = tokens_call(text, comments, &mut room);
         match status {
             DONE => {
                 let found = &room[..answer.size];
@@ -168,7 +198,7 @@ pub fn tokens(text: &str) -> Result<Vec<Token>, Fault> {
 }
 
 impl Token {
-    /// The token that the library wrote.
+    /// Returns the token or the comment that the library wrote.
     fn from_placed(placed: &PlacedKind) -> Token {
         Token {
             kind: TokenKind::ALL[placed.kind],
@@ -178,7 +208,8 @@ impl Token {
 }
 
 /// Returns where each template list of a text is, from its `<` to after its `>`, in the order of
-/// their starts. They are found in comments too.
+/// their starts. They are found in comments too. A `<` at which none of them starts begins no
+/// template list.
 ///
 /// # Errors
 ///

@@ -2,7 +2,7 @@
 
 pub use crate::fault::{Fault as Error, FaultKind as ErrorKind};
 
-use crate::lines::LineIndex;
+use crate::lines::{LineIndex, Position};
 use crate::span::Span;
 use std::borrow::Cow;
 use std::fmt;
@@ -48,39 +48,89 @@ impl<'s> ErrorWithSource<'s> {
 impl fmt::Display for ErrorWithSource<'_> {
     fn fmt(&self, f: &mut fmt::Formatter<'_>) -> fmt::Result {
         let message = &self.error.message;
-        if self.error.has_place() {
-            write_snippet(f, message, self.error.span, &self.source)
-        } else {
-            write!(f, "error: {message}")
+        write!(f, "error: {message}")?;
+        if !self.error.has_place() {
+            return Ok(());
         }
+        let lines = MarkedLine::new(&self.source, self.error.span);
+        let Position { line, column, .. } = lines.place;
+        write!(f, "\n --> line {line}, column {column}\n{lines}")
     }
 }
 
 impl std::error::Error for ErrorWithSource<'_> {}
 
-/// Writes a message, the place of a span, the line in which it starts, and marks below the part of
-/// the span that is in this line, at least one.
-fn write_snippet(f: &mut impl fmt::Write, message: &str, span: Span, source: &str) -> fmt::Result {
-    let lines = LineIndex::new(source);
-    let place = lines.position(span.start);
-    let line = lines.line(place.line).unwrap_or_default();
-    let text = &source[line.range()];
-    let marked: usize = text
-        .char_indices()
-        .filter(|(at, c)| {
+/// An error in a file with a name, and the text of the file. It is written as compilers do:
+/// `NAME:LINE:COLUMN: error: MESSAGE`, the line in which the error starts, and marks below it. The
+/// message is without what was expected.
+///
+/// ```
+/// let text = "const a = 1;\nconst class = 2;";
+/// let error = centrelilac::parse(text).unwrap_err();
+/// let wanted = "\
+/// waves.wgsl:2:7: error: use of a reserved word `class`
+/// const class = 2;
+///       ^^^^^";
+/// assert_eq!(error.in_file("waves.wgsl", text).to_string(), wanted);
+/// ```
+#[derive(Clone, Copy, Debug, PartialEq, Eq)]
+pub struct ErrorInFile<'e> {
+    /// The error.
+    pub error: &'e Error,
+    /// The name of the file.
+    pub name: &'e str,
+    /// The text of the file.
+    pub source: &'e str,
+}
+
+impl fmt::Display for ErrorInFile<'_> {
+    fn fmt(&self, f: &mut fmt::Formatter<'_>) -> fmt::Result {
+        let (name, message) = (self.name, self.error.message_alone());
+        if !self.error.has_place() {
+            return write!(f, "{name}: error: {message}");
+        }
+        let lines = MarkedLine::new(self.source, self.error.span);
+        let Position { line, column, .. } = lines.place;
+        write!(f, "{name}:{line}:{column}: error: {message}\n{lines}")
+    }
+}
+
+impl std::error::Error for ErrorInFile<'_> {}
+
+/// The line of a text in which a span starts. It is written with marks below the part of the span
+/// that is in this line, at least one.
+struct MarkedLine<'s> {
+    text: &'s str,
+    /// Where the span starts.
+    place: Position,
+    /// How many characters of the span are in the line.
+    marked: usize,
+}
+
+impl<'s> MarkedLine<'s> {
+    fn new(source: &'s str, span: Span) -> Self {
+        let lines = LineIndex::new(source);
+        let place = lines.position(span.start);
+        let line = lines.line(place.line).unwrap_or_default();
+        let text = &source[line.range()];
+        let marked = text.char_indices().filter(|(at, c)| {
             let end = line.start + at + c.len_utf8();
             span.start < end && end <= span.end
-        })
-        .count();
-    writeln!(f, "error: {message}")?;
-    writeln!(f, " --> line {}, column {}", place.line, place.column)?;
-    writeln!(f, "{text}")?;
-    write!(
-        f,
-        "{}{}",
-        " ".repeat(place.column - 1),
-        "^".repeat(marked.max(1))
-    )
+        });
+        MarkedLine {
+            text,
+            place,
+            marked: marked.count(),
+        }
+    }
+}
+
+impl fmt::Display for MarkedLine<'_> {
+    fn fmt(&self, f: &mut fmt::Formatter<'_>) -> fmt::Result {
+        let spaces = " ".repeat(self.place.column - 1);
+        let marks = "^".repeat(self.marked.max(1));
+        write!(f, "{}\n{spaces}{marks}", self.text)
+    }
 }
 
 #[cfg(test)]
@@ -90,6 +140,8 @@ mod text;
 #[cfg(test)]
 mod tests {
     use super::*;
+    use crate::calls::{check, REFUSED};
+    use crate::ffi::snippet_call;
 
     const ROWS: &str = include_str!("../../../crates/wgsl_test_texts/data/snippets.txt");
 
@@ -117,12 +169,48 @@ mod tests {
             let (span, _) = first.expect("a row").split_once(' ').expect("a span");
             let (start, end) = span.split_once("..").expect("a span");
             let span = Span::new(start.parse().expect("a number")..end.parse().expect("a number"));
-            let mut written = String::new();
             let source = texts(row, "snippet").join("\n");
-            write_snippet(&mut written, "invalid token", span, &source).expect("a text");
+            let error = Error {
+                span,
+                ..check("#").unwrap_err()
+            };
+            let written = error.with_source(source.into()).to_string();
             assert_eq!(written, texts(row, "printed").join("\n"), "{row}");
             count += 1;
         }
         assert!(count >= 10, "only {count} rows were read");
+    }
+
+    /// Returns the lines that the library writes of a text, in a file with a name if that is not
+    /// empty.
+    fn lines_of(name: &str, text: &str) -> String {
+        let mut room = vec![0; 1024];
+        let said = snippet_call(name, text, &mut room);
+        assert_eq!(said.status, REFUSED, "{text}");
+        room.truncate(said.answer.size);
+        assert_eq!(room.pop(), Some(0), "{text}");
+        String::from_utf8(room).expect("a text")
+    }
+
+    #[test]
+    fn errors_are_written_as_by_the_library() {
+        for text in [
+            "const a = 1;\nconst = 2;\n",
+            "alias A",
+            "const class = 1;",
+            "/* é */ #",
+            "fn f() {\n    é é;\n}",
+            "@align fn f() {}",
+            "var<a> b: i32;",
+            "diagnostic(a, b);",
+        ] {
+            let error = check(text).unwrap_err();
+            let in_file = error.in_file("é.wgsl", text).to_string();
+            assert_eq!(in_file, lines_of("é.wgsl", text));
+            if !error.message.ends_with(" others") {
+                let with_source = error.with_source(text.into()).to_string();
+                assert_eq!(with_source, lines_of("", text));
+            }
+        }
     }
 }

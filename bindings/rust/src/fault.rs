@@ -1,6 +1,6 @@
 //! What is wrong with a text.
 
-use crate::error::ErrorWithSource;
+use crate::error::{ErrorInFile, ErrorWithSource};
 use crate::ffi::Answer;
 use crate::lines::LineIndex;
 use crate::span::Span;
@@ -115,6 +115,32 @@ impl Fault {
     #[must_use]
     pub fn with_source(self, source: Cow<'_, str>) -> ErrorWithSource<'_> {
         ErrorWithSource::new(self, source)
+    }
+
+    /// Adds the name of the file that it is about, and the text of that, with which it is written as
+    /// compilers do.
+    ///
+    /// ```
+    /// let text = "const a = 1;\nconst = 2;";
+    /// let fault = centrelilac::parse(text).unwrap_err();
+    /// let shown = fault.in_file("waves.wgsl", text).to_string();
+    /// assert_eq!(shown, "waves.wgsl:2:7: error: unexpected token `=`\nconst = 2;\n      ^");
+    /// ```
+    #[must_use]
+    pub fn in_file<'e>(&'e self, name: &'e str, source: &'e str) -> ErrorInFile<'e> {
+        ErrorInFile {
+            error: self,
+            name,
+            source,
+        }
+    }
+
+    /// Returns its message without what was expected.
+    pub(crate) fn message_alone(&self) -> &str {
+        match self.message.rsplit_once(", expected `") {
+            Some((message, _)) if !self.expected.is_empty() => message,
+            _ => &self.message,
+        }
     }
 
     /// Whether it is about a place in the text.

@@ -82,6 +82,16 @@ extern "C" {
         room_size: usize,
         answer: *mut Answer,
     ) -> u32;
+    #[cfg(test)]
+    fn wgsl_c_snippet(
+        name: *const u8,
+        name_size: usize,
+        text: *const u8,
+        size: usize,
+        room: *mut u8,
+        room_size: usize,
+        answer: *mut Answer,
+    ) -> u32;
     fn wgsl_c_recognize(
         text: *const u8,
         size: usize,
@@ -106,6 +116,13 @@ extern "C" {
         answer: *mut Answer,
     ) -> u32;
     fn wgsl_c_tokens(
+        text: *const u8,
+        size: usize,
+        room: *mut PlacedKind,
+        room_size: usize,
+        answer: *mut Answer,
+    ) -> u32;
+    fn wgsl_c_tokens_with_comments(
         text: *const u8,
         size: usize,
         room: *mut PlacedKind,
@@ -172,18 +189,38 @@ pub fn text_call(call: Call, text: &str, room: &mut [u8]) -> Said {
     Said { status, answer }
 }
 
-/// Writes the tokens of a text, as many as fit into the buffer.
-pub fn tokens_call(text: &str, room: &mut [PlacedKind]) -> Said {
+/// Writes the lines that show the fault of a text, in a file with a name if that is not empty.
+#[cfg(test)]
+pub fn snippet_call(name: &str, text: &str, room: &mut [u8]) -> Said {
     let mut answer = Answer::default();
-    // SAFETY: as in `text_call`; `PlacedKind` has the layout of the struct that the export writes.
+    // SAFETY: as in `text_call`, of two texts, neither of which is written to.
     let status = unsafe {
-        wgsl_c_tokens(
+        wgsl_c_snippet(
+            name.as_ptr(),
+            name.len(),
             text.as_ptr(),
             text.len(),
             room.as_mut_ptr(),
             room.len(),
             &mut answer,
         )
+    };
+    Said { status, answer }
+}
+
+/// Writes the tokens of a text, with the comments between them or without, as many as fit into the
+/// buffer.
+pub fn tokens_call(text: &str, comments: bool, room: &mut [PlacedKind]) -> Said {
+    let mut answer = Answer::default();
+    let (at, size) = (text.as_ptr(), text.len());
+    let (to, room_size) = (room.as_mut_ptr(), room.len());
+    // SAFETY: as in `text_call`; `PlacedKind` has the layout of the struct that the exports write.
+    let status = unsafe {
+        if comments {
+            wgsl_c_tokens_with_comments(at, size, to, room_size, &mut answer)
+        } else {
+            wgsl_c_tokens(at, size, to, room_size, &mut answer)
+        }
     };
     Said { status, answer }
 }

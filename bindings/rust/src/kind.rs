@@ -3,8 +3,9 @@
 /// The kinds, in the order of their numbers.
 macro_rules! kinds {
     ($($(#[$note:meta])* $kind:ident,)*) => {
-        /// The kind of a token, without what it holds. The kinds are in the order of their numbers
-        /// in `wgsl.h`. No call gives a comment.
+        /// The kind of a token or a comment, without what it holds. The kinds are in the order of
+        /// their numbers in `wgsl.h`. Only
+        /// [`tokens_with_comments`](crate::tokens_with_comments) returns comments.
         #[derive(Clone, Copy, Debug, PartialEq, Eq, Hash)]
         pub enum TokenKind {
             $($(#[$note])* $kind,)*
@@ -13,6 +14,22 @@ macro_rules! kinds {
         impl TokenKind {
             /// The kinds by their numbers.
             pub(crate) const ALL: &'static [TokenKind] = &[$(TokenKind::$kind),*];
+
+            /// Returns whether it is a comment.
+            ///
+            /// ```
+            /// use centrelilac::TokenKind;
+            ///
+            /// assert!(TokenKind::LineComment.is_comment());
+            /// assert!(!TokenKind::SymForwardSlash.is_comment());
+            /// ```
+            #[must_use]
+            pub fn is_comment(self) -> bool {
+                matches!(
+                    self,
+                    TokenKind::LineComment | TokenKind::BlockComment | TokenKind::OpenComment
+                )
+            }
         }
     };
 }

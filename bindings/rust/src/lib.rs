@@ -51,7 +51,7 @@ mod words;
 
 pub use calls::{
     begins_with_template_list, check, format, nesting, parse, recognize, template_lists, tokens,
-    Token,
+    tokens_with_comments, Token,
 };
 pub use fault::{Fault, Fault as Error, FaultKind};
 pub use kind::TokenKind;

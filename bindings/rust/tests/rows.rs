@@ -9,7 +9,7 @@ use centrelilac::span::equal_with_spans;
 use centrelilac::syntax::{
     Expression, GlobalDeclaration, GlobalDirective, ModulePath, Statement, TranslationUnit,
 };
-use centrelilac::{Fault, FaultKind};
+use centrelilac::{Fault, FaultKind, Token};
 use row::{rows, Row};
 use std::fmt::Debug;
 use text::texts_of;
@@ -118,13 +118,41 @@ fn check_tokens(row: &Row) {
         Ok(tokens) => {
             let found: Vec<_> = tokens.iter().map(|token| token.span.to_string()).collect();
             assert_eq!(found, places, "{}", row.place);
+            check_comments(row, text, &tokens);
         }
         Err(fault) => {
             let last = places.last().expect(&row.place);
             assert_eq!(fault.span.to_string(), *last, "{}", row.place);
             assert_eq!(fault.kind, FaultKind::InvalidToken, "{}", row.place);
             check_place(row, text, &fault);
+            let other = centrelilac::tokens_with_comments(text).expect_err(&row.place);
+            assert_eq!(other, fault, "{}", row.place);
         }
+    }
+}
+
+/// Checks that the tokens with the comments between them are the tokens, and that nothing but
+/// comments and blank space is between these.
+fn check_comments(row: &Row, text: &str, tokens: &[Token]) {
+    let items = centrelilac::tokens_with_comments(text).expect(&row.place);
+    let (comments, others): (Vec<_>, Vec<_>) = items
+        .iter()
+        .copied()
+        .partition(|item| item.kind.is_comment());
+    assert_eq!(others, tokens, "{}", row.place);
+    for comment in comments {
+        let comment = &text[comment.span.range()];
+        assert!(
+            comment.starts_with("//") || comment.starts_with("/*"),
+            "{}",
+            row.place
+        );
+    }
+    let ends = items.iter().map(|item| item.span.end);
+    let starts = items.iter().map(|item| item.span.start);
+    for (end, start) in [0].into_iter().chain(ends).zip(starts.chain([text.len()])) {
+        let blank = |c: char| c.is_whitespace() || matches!(c, '\u{200e}' | '\u{200f}');
+        assert!(text[end..start].chars().all(blank), "{}", row.place);
     }
 }
 
