@@ -45,7 +45,8 @@ blank_passed total c text rest after before buffer n m e is h = record {
 }
 
 -- one more comment is stored
-pub comment_passed : (total class start end : ℕ) (text rest after : List ℕ) (before buffer new : List PlacedKind) (n m k : ℕ)
+pub comment_passed : (total class start end : ℕ) (text rest after : List ℕ)
+    (before buffer new : List PlacedKind) (n m k : ℕ)
     → IsComment rest class after → start ≡ place total rest → end ≡ place total after
     → ((items : List (ℕ × ℕ × ℕ)) → Stored kind_and_place items buffer m
     → Stored kind_and_place (items ++ ((class, start, end) ∷ [])) new k)
@@ -76,9 +77,10 @@ all_commented total text rest before buffer n m none h = (
 
 -- ---- tokens with the comments between them
 
--- some items of a source are stored, and with those of the tokens that are left from a place on they
+-- some items of a source are stored, and with those of the tokens that are left after a place they
 -- are all
-pub record Listed (source : List ℕ) (n : ℕ) (all left : List Token) (buffer : List PlacedKind) (count : ℕ) : Type 0 where
+pub record Listed (source : List ℕ) (n : ℕ) (all left : List Token) (buffer : List PlacedKind)
+    (count : ℕ) : Type 0 where
   pub done : List (ℕ × ℕ × ℕ)
   pub whole : (items : List (ℕ × ℕ × ℕ)) → AreTokensAndComments source n left items
       → AreTokensAndComments source 0 all (done ++ items)

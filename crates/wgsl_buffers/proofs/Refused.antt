@@ -33,7 +33,8 @@ refused_by IsNamed source text before buffer a e same named placed not told =
     let fault = fault_of IsNamed source text e same named placed not in (e, fault.0, fault.1, told)
 
 -- so it is where the lines that show the error are told
-pub refused_with_lines : (IsNamed : List ℕ → Fault → Type 0) (name source text before buffer : List ℕ) (a : Answer) (e : Error)
+pub refused_with_lines : (IsNamed : List ℕ → Fault → Type 0) (name source text before buffer : List ℕ)
+    (a : Answer) (e : Error)
     → source ≡ text → IsOutOfMemory e ⊎ IsNamed (chars source) (fault_view e)
     → StandsWithin e.span (length source) → ¬ (e.error ≡ kinds.OutOfMemory)
     → TellsTexts (nul_terminated (error_lines name (chars source) e)) e before buffer a
