@@ -344,8 +344,8 @@ static inline uint32_t wgsl_check(const char *text, size_t size, char *buffer, s
  *     const = 2;
  *           ^
  *
- * A line ends with a line feed, columns are counted in characters, and each character that is
- * marked has a `^`. */
+ * A line ends with a line feed, and columns are counted in characters. A `^` is below each
+ * character of the fault in its first line, and below its place if there is none. */
 static inline uint32_t wgsl_snippet(const char *name, size_t name_size, const char *text,
                                     size_t size, char *buffer, size_t buffer_size,
                                     struct wgsl_answer *answer) {
