@@ -217,8 +217,8 @@ static int is_shown(const char *name, const char *text, const char *lines) {
     char buffer[256];
     size_t size = strlen(lines) + 1;
     memset(buffer, '#', sizeof buffer);
-    return show(name, text, buffer, size - 1) == WGSL_REFUSED && answer.size == size
-        && is_filled(buffer, sizeof buffer) && show(name, text, buffer, sizeof buffer) == WGSL_REFUSED
+    return show(name, text, buffer, size - 1) == WGSL_REFUSED && is_filled(buffer, sizeof buffer)
+        && answer.size == size && show(name, text, buffer, sizeof buffer) == WGSL_REFUSED
         && answer.size == size && memcmp(buffer, lines, size) == 0
         && is_filled(buffer + size, sizeof buffer - size);
 }

@@ -184,12 +184,12 @@ mod tests {
     /// Returns the lines that the library writes of a text, in a file with a name if that is not
     /// empty.
     fn lines_of(name: &str, text: &str) -> String {
-        let mut room = vec![0; 1024];
-        let said = snippet_call(name, text, &mut room);
+        let mut buffer = vec![0; 1024];
+        let said = snippet_call(name, text, &mut buffer);
         assert_eq!(said.status, REFUSED, "{text}");
-        room.truncate(said.answer.size);
-        assert_eq!(room.pop(), Some(0), "{text}");
-        String::from_utf8(room).expect("a text")
+        buffer.truncate(said.answer.size);
+        assert_eq!(buffer.pop(), Some(0), "{text}");
+        String::from_utf8(buffer).expect("a text")
     }
 
     #[test]
