@@ -1,6 +1,6 @@
 -- What a buffer holds, and what when one more item is written to it.
 use Rattle.std.proofs.Common.{◌≡◌, ℕ, suc, ◌+◌, ◌-◌, ◌^◌, ◌<◌, ◌≤◌, min, List, [], ◌∷◌, ◌++◌, length, take, drop, set, map, Option, Some, None, refl, sym, ap, subst, ◌∙◌, arith}
-use Rattle.std.proofs.lemmas.List.{take_all, take_more_set, map-append, append_assoc, append-nil, length-append, length-map, length-set, take-append-le}
+use Rattle.std.proofs.lemmas.List.{take_all, take_more_set, map-append, append_assoc, append-nil, length-append, length-set, take-append-le}
 use Rattle.std.specs.Str.{IsUtf8, chars}
 use Rattle.grammar.specs.Tokens.{Token}
 use Rattle.wgsl_model.specs.Tokens.Places.{width}
@@ -13,7 +13,7 @@ use Rattle.wgsl_lex_templates.specs.Spans.{end_from}
 use Rattle.wgsl_lexer.specs.TextTokens.{StartWithKind, BeginAt}
 use Rattle.wgsl_buffers.specs.declared.lists.Place.{Place}
 use Rattle.wgsl_buffers.specs.declared.tokens.PlacedKind.{PlacedKind}
-use Rattle.wgsl_buffers.specs.Items.{count_of, HoldItems, Stored, kind_and_place, item_of_token, token_items, start_and_end, list_at, lists_before, ArePlaces}
+use Rattle.wgsl_buffers.specs.Items.{Stored, kind_and_place, item_of_token, token_items, start_and_end, list_at, lists_before, ArePlaces}
 
 -- at first there is none
 pub none_stored : {X Y : Type 0} (view : X → Y) (buffer : List X) → Stored view [] buffer 0

@@ -1,5 +1,5 @@
 -- The comments between the tokens of a text, as they are written to a buffer with them.
-use Rattle.std.specs.Prelude.{◌≡◌, ℕ, true, List, [], ◌∷◌, ◌++◌, Option, Some, None, MatchOption, drop, chars}
+use Rattle.std.specs.Prelude.{◌≡◌, ℕ, true, List, [], ◌∷◌, ◌++◌, Some, None, MatchOption, drop, chars}
 use Rattle.std.specs.Str.{encode_utf8_all}
 use Rattle.grammar.specs.Tokens.{Token}
 use Rattle.wgsl_model.specs.Tokens.Characters.{is_blank}
