@@ -1,0 +1,12 @@
+pub mod Digits
+pub mod Escapes
+pub mod Unique
+pub mod Trees
+pub mod Tokens
+pub mod Ways
+pub mod Parts
+pub mod Attributes
+pub mod ExpressionRules
+pub mod StatementRules
+pub mod UnitRules
+pub mod Rules
