@@ -3,3 +3,4 @@ pub mod Commented
 pub mod Refused
 pub mod PrintedKinds
 pub mod Forms
+pub mod PrintedForms

@@ -11,10 +11,16 @@ use Rattle.wgsl_tree_code.specs.UnitNodes.{unit_code, global_directive_code, glo
 use Rattle.wgsl_tree_code.specs.StatementNodes.{statement_code, selector_code, declaration_kind_code, if_clause_code, else_if_clause_code, else_clause_code, switch_clause_code, continuing_code, break_if_code}
 use Rattle.wgsl_tree_code.specs.ExpressionNodes.{expression_code}
 use Rattle.wgsl_tree_code.specs.AttributeNodes.{attribute_code, type_constraint_code}
+use Rattle.wgsl_form_laws.specs.Unique.{Fits}
+
+-- the form is that of the node, and of no other node whose numbers fit in 64 bits
+abbrev pub Describes : {Node : Type 0} → (Node → Code) → List ℕ → Node → Type 0
+Describes {Node = Node} code form node = (form ≡ text_form.form (code node))
+    × ((other : Node) → Fits (code other) → form ≡ text_form.form (code other) → other ≡ node)
 
 -- the printed text of the node that a form describes
 abbrev pub IsPrintOf : {Node : Type 0} → (Node → Code) → (Node → List ℕ) → List ℕ → List ℕ → Type 0
-IsPrintOf {Node = Node} code print form text = (node : Node) × (form ≡ text_form.form (code node)) × (text ≡ print node)
+IsPrintOf {Node = Node} code print form text = (node : Node) × Describes code form node × (text ≡ print node)
 
 -- the kinds
 pub data Kind : Type 0 where

@@ -5,3 +5,4 @@ pub mod Kinds
 pub mod Layouts
 pub mod Trees
 pub mod Calls
+pub mod PrintedTrees

@@ -4,6 +4,7 @@
 mod answer;
 mod comments;
 mod fault;
+mod laws;
 mod lists;
 mod modules;
 mod prints;
@@ -14,6 +15,7 @@ mod trees;
 
 pub use answer::Answer;
 pub use comments::write_tokens_with_comments;
+pub use laws::{printed_form, printed_trees};
 pub use lists::{Place, begins_with_list, write_lists};
 pub use modules::{check, format, measure_nesting, recognize};
 pub use prints::print_form;
