@@ -1,2 +1,4 @@
 pub mod Numbers
 pub mod Texts
+pub mod Refused
+pub mod RefusedTexts

@@ -9,7 +9,7 @@ use Rattle.std.proofs.lemmas.List.Sums.{prefix_len-le-length, prefix_len_stops}
 use Rattle.wgsl_tree_code.specs.Form.{escaped, escaped_byte}
 use Rattle.wgsl_form_reader.specs.Texts.{is_plain}
 
-plain_byte : (b : ℕ) → is_plain b ≡ true → escaped_byte b ≡ b ∷ []
+pub plain_byte : (b : ℕ) → is_plain b ≡ true → escaped_byte b ≡ b ∷ []
 plain_byte b plain = grind (arith, common_steps)
 
 ascii_byte : (b : ℕ) → is_plain b ≡ false → b < 128

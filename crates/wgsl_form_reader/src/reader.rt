@@ -1,8 +1,8 @@
 //! What of a form is still to be read.
 
-ghost use Rattle.std.specs.Prelude.{◌≡◌, ◌≤◌, ◌++◌, [], length, true, false, IfOk, OnOk};
+ghost use Rattle.std.specs.Prelude.{◌≡◌, ◌≢◌, ◌≤◌, ◌<◌, ◌^◌, ◌++◌, ℕ, Bool, [], length, true, false, IfOk, MatchResult, OnErr, OnOk};
 ghost use Rattle.wgsl_tree_code.specs.Code.{absent, boolean, pair_of, natural};
-ghost use Rattle.wgsl_form_reader.specs.Reading.{rest, IsRead};
+ghost use Rattle.wgsl_form_reader.specs.Reading.{rest, IsNoForm, IsNotNext, IsRead};
 
 use crate::error::{FormError, FormErrorKind};
 use wgsl_span::Span;
@@ -52,6 +52,7 @@ impl<'t> Reader<'t> {
     pub fn eat(&mut self, part: &'static str) -> bool
         ensures eaten { result ≡ true → rest self.old ≡ part.now ++ rest self.new }
         ensures kept { result ≡ false → rest self.new ≡ rest self.old }
+        ensures refused { result ≡ false → IsNotNext part.now self.old }
     {
         match self.rest.strip_prefix(part) {
             Some(rest) => {
@@ -64,7 +65,8 @@ impl<'t> Reader<'t> {
 
     /// Passes over a part that has to be next.
     pub fn expect(&mut self, part: &'static str) -> Result<(), FormError>
-        ensures { OnOk result (rest self.old ≡ part.now ++ rest self.new) }
+        ensures { MatchResult result (λ _. rest self.old ≡ part.now ++ rest self.new)
+            (λ _. IsNotNext part.now self.old) }
     {
         if self.eat(part) {
             Ok(())
@@ -75,7 +77,8 @@ impl<'t> Reader<'t> {
 
     /// Returns an error unless nothing is left.
     pub fn end(&self) -> Result<(), FormError>
-        ensures { OnOk result (rest self.now ≡ []) }
+        ensures ended { OnOk result (rest self.now ≡ []) }
+        ensures refused { OnErr result (rest self.now ≢ []) }
     {
         if self.rest.is_empty() {
             Ok(())
@@ -86,7 +89,8 @@ impl<'t> Reader<'t> {
 
     /// Reads `true` or `false`.
     pub fn read_boolean(&mut self) -> Result<bool, FormError>
-        ensures { IfOk result (λ b. IsRead (boolean b) self.old self.new) }
+        ensures read { IfOk result (λ b. IsRead (boolean b) self.old self.new) }
+        ensures refused { OnErr result ((b : Bool) → IsNoForm (boolean b) self.old) }
     {
         if self.eat("true") {
             return Ok(true);
@@ -102,6 +106,8 @@ impl<'t> Reader<'t> {
         ensures read { IfOk result (λ span. IsRead (pair_of (natural span.start) (natural span.end))
             self.old self.new) }
         ensures ordered { IfOk result (λ span. span.start ≤ span.end) }
+        ensures refused { OnErr result ((start end : ℕ) → start < 2 ^ 64 → end < 2 ^ 64 → start ≤ end →
+            IsNoForm (pair_of (natural start) (natural end)) self.old) }
     {
         self.expect("[")?;
         let start = self.read_usize()?;

@@ -1,12 +1,13 @@
 //! Texts between quotation marks.
 
-ghost use Rattle.std.specs.Prelude.{◌≡◌, ◌+◌, ◌/◌, ◌%◌, ◌<◌, ◌∷◌, ◌++◌, IfOk, IfSome, string_bytes, false};
+ghost use Rattle.std.specs.Prelude.{◌≡◌, ◌≢◌, ◌⊎◌, ◌+◌, ◌/◌, ◌%◌, ◌<◌, ◌∷◌, ◌++◌, ℕ, List, IfErr, IfOk, MatchOption, OnErr, string_bytes, false};
 ghost use Rattle.std.specs.Fmt.{digit_glyph};
 ghost use Rattle.std.specs.List.{prefix_len};
 ghost use Rattle.wgsl_tree_code.specs.Code.{text};
 ghost use Rattle.wgsl_tree_code.specs.Form.{escaped, escaped_byte};
-ghost use Rattle.wgsl_form_reader.specs.Reading.{rest, IsRead};
-ghost use Rattle.wgsl_form_reader.specs.Texts.{is_plain};
+ghost use Rattle.wgsl_form_reader.specs.declared.error.FormErrorKind.TheVariants as kinds;
+ghost use Rattle.wgsl_form_reader.specs.Reading.{rest, IsNoForm, IsRead};
+ghost use Rattle.wgsl_form_reader.specs.Texts.{is_plain, BeginsWithoutPlain};
 
 use crate::error::{FormError, FormErrorKind};
 use crate::reader::Reader;
@@ -16,7 +17,9 @@ impl<'t> Reader<'t> {
     /// Reads a text: after a `\` a quotation mark or a `\`, or the number of a control character in
     /// four hexadecimal digits.
     pub fn read_text(&mut self, alloc: Global) -> Result<String, FormError>
-        ensures { IfOk result (λ bytes. IsRead (text (string_bytes bytes)) self.old self.new) }
+        ensures read { IfOk result (λ bytes. IsRead (text (string_bytes bytes)) self.old self.new) }
+        ensures refused { IfErr result (λ error. (error.kind ≡ kinds.OutOfMemory) ⊎
+            ((bytes : List ℕ) → IsNoForm (text bytes) self.old)) }
     {
         if !self.eat("\"") {
             return Err(self.error(FormErrorKind::Expected("a text")));
@@ -33,7 +36,8 @@ impl<'t> Reader<'t> {
 
     /// Reads all characters that are next and are written as they are.
     fn read_plain(&mut self) -> &'t str
-        ensures { rest self.old ≡ escaped result.now ++ rest self.new }
+        ensures read { rest self.old ≡ escaped result.now ++ rest self.new }
+        ensures whole { BeginsWithoutPlain (rest self.new) }
     {
         let len = plain_len(self.rest.as_bytes());
         let (plain, after) = self.rest.split_at(len);
@@ -45,6 +49,8 @@ impl<'t> Reader<'t> {
     fn read_escape(&mut self) -> Result<char, FormError>
         ensures ascii { IfOk result (λ c. c < 128) }
         ensures read { IfOk result (λ c. rest self.old ≡ escaped_byte c ++ rest self.new) }
+        ensures refused { OnErr result ((b : ℕ) → is_plain b ≡ false → (more : List ℕ) →
+            rest self.old ≢ escaped_byte b ++ more) }
     {
         if self.eat("\\\"") {
             return Ok('"');
@@ -65,19 +71,32 @@ impl<'t> Reader<'t> {
     fn read_hex_digit(&mut self) -> Result<u8, FormError>
         ensures below { IfOk result (λ d. d < 16) }
         ensures read { IfOk result (λ d. rest self.old ≡ digit_glyph false d ∷ rest self.new) }
+        ensures refused { OnErr result ((d : ℕ) → d < 16 → (more : List ℕ) →
+            rest self.old ≢ digit_glyph false d ∷ more) }
     {
-        let mut chars = self.rest.chars();
-        let Some(digit) = chars.next().and_then(hex_digit) else {
+        let Some((digit, rest)) = self.split_hex_digit() else {
             return Err(self.error(FormErrorKind::Expected("a hexadecimal digit in lower case")));
         };
-        self.rest = chars.as_str();
+        self.rest = rest;
         Ok(digit)
+    }
+
+    /// The hexadecimal digit in lower case that is next, and what is after it.
+    fn split_hex_digit(&self) -> Option<(u8, &'t str)>
+        ensures { MatchOption result
+            ((d : ℕ) → d < 16 → (more : List ℕ) → rest self.now ≢ digit_glyph false d ∷ more)
+            (λ p. (p.0 < 16) × (rest self.now ≡ digit_glyph false p.0 ∷ p.1.now)) }
+    {
+        let mut chars = self.rest.chars();
+        let digit = hex_digit(chars.next()?)?;
+        Some((digit, chars.as_str()))
     }
 }
 
 /// The value of a hexadecimal digit in lower case.
 fn hex_digit(c: char) -> Option<u8>
-    ensures { IfSome result (λ d. (d < 16) × (c ≡ digit_glyph false d)) }
+    ensures { MatchOption result ((d : ℕ) → d < 16 → c ≢ digit_glyph false d)
+        (λ d. (d < 16) × (c ≡ digit_glyph false d)) }
 {
     match c {
         '0'..='9' => Some(c as u8 - b'0'),
