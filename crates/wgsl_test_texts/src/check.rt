@@ -9,6 +9,7 @@ use crate::literals::see_literal;
 use crate::paths::see_path;
 use crate::programs::Call;
 use crate::row::{Field, Row};
+use crate::shortest::see_shortest;
 use crate::snippets::see_snippet;
 use crate::streams::see_call;
 use crate::tokens::{see_list, see_tokens};
@@ -53,6 +54,7 @@ fn see_text(
         "path" => see_path(text, facts),
         "parse_within" => see_depth(text, argument, facts),
         "tidy_with" => see_layout(text, argument, facts),
+        "shorten" => see_shortest(text, facts),
         "snippet" => see_snippet(text, argument, facts),
         _ => facts.expect(false, "a row says how its text is read"),
     }

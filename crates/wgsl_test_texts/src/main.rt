@@ -14,6 +14,7 @@ mod literals;
 mod paths;
 mod programs;
 mod row;
+mod shortest;
 mod snippets;
 mod streams;
 mod text;

@@ -1,0 +1,60 @@
+//! The shortest text of a module.
+
+ghost use Rattle.std.specs.Prelude.{◌≡◌, ◌⊎◌, chars, length, string_bytes, IfOk, IfErr};
+ghost use Rattle.wgsl_error.specs.View.{fault_view};
+ghost use Rattle.wgsl_read_cursor.specs.Answers.{IsOutOfMemory};
+ghost use Rattle.wgsl_read_cursor.specs.Places.{StandsWithin};
+ghost use Rattle.wgsl_model_tidy.specs.Formatted.{unmarked};
+ghost use Rattle.wgsl_model_tidy.specs.Syntax.{IsModuleInSyntax, IsFaultAfterMark};
+ghost use Rattle.wgsl_model_short.specs.Shortened.{IsShortest, KeepsTokens};
+
+use crate::shortest::shortest;
+use crate::source::{error_after, split_mark};
+use std::alloc::Global;
+use wgsl_error::Error;
+use wgsl_lexer::TextTokens;
+use wgsl_read_dialect::check_syntax;
+
+/// How many rules of the grammar at most are inside one another for each level.
+const RULES: usize = 8;
+
+/// Returns the shortest text of a module: its tokens as they are, in order, without comments and
+/// line breaks, and between two tokens a space only where without it they might not be read as
+/// these two. A byte order mark at the start is left out. Names are not checked, so the text may
+/// have reserved words or attributes, address spaces or severities that `parse_str` does not know.
+/// Otherwise the error is the first token that can't be where it is; else the text that is no
+/// token; else that the text ends too early.
+pub fn shorten(alloc: Global, source: &str) -> Result<String, Error>
+    ensures accepted { IfOk result (λ _. IsModuleInSyntax (unmarked (chars source.now))) }
+    ensures refused { IfErr result (λ e.
+        IsOutOfMemory e ⊎ IsFaultAfterMark (chars source.now) (fault_view e)) }
+    ensures placed { IfErr result (λ e. StandsWithin e.span (length source.now)) }
+    ensures shortest { IfOk result (λ text.
+        IsShortest (chars source.now) (chars (string_bytes text))) }
+    ensures kept { IfOk result (λ text.
+        KeepsTokens (chars source.now) (chars (string_bytes text))) }
+{
+    shorten_within(alloc, source, usize::MAX)
+}
+
+/// `shorten` on a stack that grows with a depth: where brackets, blocks and template lists nest
+/// deeper than a number of levels, the error is of the kind `OutOfMemory`. They are counted by the
+/// rules of the grammar, so a few more levels may be accepted.
+pub fn shorten_within(alloc: Global, source: &str, depth: usize) -> Result<String, Error>
+    ensures accepted { IfOk result (λ _. IsModuleInSyntax (unmarked (chars source.now))) }
+    ensures refused { IfErr result (λ e.
+        IsOutOfMemory e ⊎ IsFaultAfterMark (chars source.now) (fault_view e)) }
+    ensures placed { IfErr result (λ e. StandsWithin e.span (length source.now)) }
+    ensures shortest { IfOk result (λ text.
+        IsShortest (chars source.now) (chars (string_bytes text))) }
+    ensures kept { IfOk result (λ text.
+        KeepsTokens (chars source.now) (chars (string_bytes text))) }
+{
+    let (mark, text) = split_mark(source);
+    let tokens = TextTokens::within(alloc, text, depth)?;
+    let rules = depth.saturating_mul(RULES);
+    if let Err(error) = check_syntax(alloc, text, tokens.clone(alloc)?, rules) {
+        return Err(error_after(mark, error));
+    }
+    Ok(shortest(alloc, text, tokens)?)
+}

@@ -1,0 +1,4 @@
+-- The definitions, in the order in which they are read.
+pub mod Spaces
+pub mod Shortest
+pub mod Shortened

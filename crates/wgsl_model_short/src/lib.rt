@@ -1,0 +1,2 @@
+//! The shortest text that has the tokens of a source.
+#![tactic(auto)]

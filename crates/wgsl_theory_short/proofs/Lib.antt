@@ -1,0 +1,2 @@
+mod NumberSigns
+mod Numbers
