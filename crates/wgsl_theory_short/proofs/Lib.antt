@@ -1,2 +1,4 @@
 mod NumberSigns
 mod Numbers
+mod SymbolEnds
+pub mod TokenEnds
