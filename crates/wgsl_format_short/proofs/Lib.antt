@@ -1,0 +1,4 @@
+pub mod Marks
+pub mod Refused
+pub mod Written
+pub mod Results

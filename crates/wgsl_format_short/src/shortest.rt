@@ -3,20 +3,12 @@
 ghost use Rattle.std.specs.Prelude.{◌≡◌, chars, string_bytes, IfOk};
 ghost use Rattle.wgsl_model.specs.Tokens.TokenList.{IsTokenList};
 ghost use Rattle.wgsl_lexer.specs.TextTokens.{tokens_left, ending_left};
-ghost use Rattle.wgsl_model.specs.Tokens.Trivia.{first_or_zero};
 ghost use Rattle.wgsl_model_short.specs.Shortest as model;
 
-use crate::spaces::goes_on;
+use crate::spaces::gap;
 use std::alloc::{AllocError, Global};
 use wgsl_lex_token::kind::TokenKind;
 use wgsl_lexer::TextTokens;
-
-/// The first character of a text, or U+0000.
-fn first(text: &str) -> char
-    ensures { result ≡ first_or_zero (chars text.now) }
-{
-    text.chars().next().unwrap_or('\0')
-}
 
 /// The shortest text of a source with these tokens.
 pub(crate) fn shortest(
@@ -33,9 +25,7 @@ pub(crate) fn shortest(
     let mut last = TokenKind::SymSemicolon;
     'tokens: while let (Some(kind), Some(span)) = (tokens.kind(), tokens.span()) {
         let token = &source[span.start..span.end];
-        if goes_on(last, first(token)) {
-            text.push_str(" ")?;
-        }
+        text.push_str(gap(last, token))?;
         text.push_str(token)?;
         last = kind;
         tokens.skip();

@@ -1,7 +1,9 @@
-//! Whether a space is between two tokens.
+//! What is between two tokens.
 
-ghost use Rattle.std.specs.Prelude.{◌≡◌};
+ghost use Rattle.std.specs.Prelude.{◌≡◌, chars};
 ghost use Rattle.wgsl_lex_token.specs.View.{class_of_kind};
+ghost use Rattle.wgsl_model.specs.Tokens.Trivia.{first_or_zero};
+ghost use Rattle.wgsl_model_short.specs.Shortest.{gap};
 ghost use Rattle.wgsl_model_short.specs.Spaces as model;
 
 use unicode_ident::is_xid_continue;
@@ -17,7 +19,7 @@ fn is_word_or_number(kind: TokenKind) -> bool
 }
 
 /// Whether a token of a kind may go on with a character.
-pub(crate) fn goes_on(kind: TokenKind, next: char) -> bool
+fn goes_on(kind: TokenKind, next: char) -> bool
     ensures { result ≡ model.goes_on (class_of_kind kind) next }
 {
     match kind {
@@ -39,4 +41,18 @@ pub(crate) fn goes_on(kind: TokenKind, next: char) -> bool
         TokenKind::AbstractInt => next == '.' || is_xid_continue(next),
         _ => is_word_or_number(kind) && is_xid_continue(next),
     }
+}
+
+/// The first character of a text, or U+0000.
+fn first(text: &str) -> char
+    ensures { result ≡ first_or_zero (chars text.now) }
+{
+    text.chars().next().unwrap_or('\0')
+}
+
+/// What is between a token of a kind and the next token.
+pub(crate) fn gap(last: TokenKind, next: &str) -> &'static str
+    ensures { chars result.now ≡ gap (class_of_kind last) (chars next.now) }
+{
+    if goes_on(last, first(next)) { " " } else { "" }
 }
