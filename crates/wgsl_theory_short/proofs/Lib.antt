@@ -1,4 +1,6 @@
 mod NumberSigns
+mod Beside
+mod WrittenBeside
 mod Numbers
 mod SymbolEnds
 pub mod TokenEnds
