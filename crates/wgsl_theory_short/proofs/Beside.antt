@@ -120,7 +120,7 @@ both_apart p q (t ∷ (u ∷ us)) vs a b n =
     let parts = and_parts (not (is_among t.class p && is_among u.class q)) (are_apart p q (u ∷ us)) a in
     and_from _ (are_apart p q ((u ∷ us) ++ vs)) parts.0 (both_apart p q (u ∷ us) vs parts.1 b n)
 
-clash : (x y : Bool) → not (x && y) ≡ true → x ≡ true → y ≡ true → ⊥
+pub clash : (x y : Bool) → not (x && y) ≡ true → x ≡ true → y ≡ true → ⊥
 clash true true h a b = true≢false (sym h)
 clash true false h a b = true≢false (sym b)
 clash false y h a b = true≢false (sym a)

@@ -2,8 +2,11 @@ mod NumberSigns
 mod Beside
 mod WrittenBeside
 mod Numbers
+mod TokenShapes
 mod SymbolEnds
+mod LongerSpellings
 pub mod TokenEnds
 mod Reading
 mod Joined
 pub mod Kept
+mod TokenJoins

@@ -31,6 +31,7 @@ use Rattle.wgsl_theory_tidy.proofs.Kept.Neighbours.{NoComment, PartsAt}
 use Rattle.wgsl_theory_tidy.proofs.Kept.Readings.{IsToken, is_word, is_slash as slash_token, is_slash_equal, is_start, is_end}
 use Rattle.wgsl_model_short.specs.Spaces.{is_word_or_number, continued_by, goes_on}
 use Rattle.wgsl_theory_short.proofs.Numbers.{no_sign_after}
+use Rattle.wgsl_theory_short.proofs.TokenShapes.{Shape, a_name, a_number, a_sign, shape, name_class, number_class}
 use Rattle.wgsl_theory_short.proofs.SymbolEnds.{symbol_ends}
 
 -- ---- names
@@ -52,66 +53,7 @@ name_ends x xs c b n z h =
     (λ k. name_no_number x b (spelled_first begins_number number_spelling number_begins x (xs ++ (c ∷ z)) k))
     (λ k. name_no_symbol x xs c z b k)
 
-keywords_so : each_passes (λ w class. is_word_or_number class) keywords ≡ true
-keywords_so = refl
-
-word_class : (bytes : List ℕ) → is_word_or_number (kind_of_word bytes).class ≡ true
-word_class bytes = by_underscore (bytes_eq bytes (codes "_"))
-  where
-    by_reserved : (b : Bool) → is_word_or_number (cond b (named ReservedWord bytes) (named Ident bytes)).class ≡ true
-    by_reserved true = refl
-    by_reserved false = refl
-
-    by_keyword : (o : Option ℕ) → look_up keywords bytes ≡ o
-        → is_word_or_number (keyword_or_name o bytes).class ≡ true
-    by_keyword (Some c) e = found_passes (λ w class. is_word_or_number class) keywords bytes c keywords_so e
-    by_keyword None e = by_reserved (is_word_among reserved_words bytes)
-
-    by_underscore : (b : Bool) → is_word_or_number
-        (cond b (plain SymUnderscore) (keyword_or_name (look_up keywords bytes) bytes)).class ≡ true
-    by_underscore true = refl
-    by_underscore false = by_keyword (look_up keywords bytes) refl
-
 -- ---- numbers
-
--- a class of numbers
-abbrev IsNumberClass : ℕ → Type 0
-IsNumberClass c = is_word_or_number c ≡ true
-
-below_class : (class limit n : ℕ) (k : Kind) → IsNumberClass class
-    → number_below class limit n ≡ Some k → IsNumberClass k.class
-below_class class limit n k r h = go (nat_lt n limit) h
-  where
-    go : (b : Bool)
-        → cond b (Some (record { class = class; payload = number_payload (pos n) })) None ≡ Some k
-        → IsNumberClass k.class
-    go true e = let same : class ≡ k.class = cc in subst IsNumberClass same r
-    go false e = absurd (cc)
-
-number_class : (w : List ℕ) (k : Kind) → number_of w ≡ Some k → IsNumberClass k.class
-number_class w k h = go (spells (whole_number empty) w) (spells (whole_number i_suffix) w)
-    (spells (whole_number u_suffix) w) (spells abstract_float w) (spells (float f_suffix) w)
-    (spells (float h_suffix) w) h
-  where
-    float_class : (class : ℕ) (text : List ℕ) → IsNumberClass class → float_of class text ≡ Some k
-        → IsNumberClass k.class
-    float_class class text r e = let same : class ≡ k.class = cc in subst IsNumberClass same r
-
-    go : (a b c d e f : Bool)
-        → cond a (number_below AbstractInt (2 ^ 63) (number_value w))
-        (cond b (number_below I32 (2 ^ 31) (number_value (without_last w)))
-        (cond c (number_below U32 (2 ^ 32) (number_value (without_last w)))
-        (cond d (float_of AbstractFloat w)
-        (cond e (float_of F32 (without_last w))
-        (cond f (float_of F16 (without_last w)) None))))) ≡ Some k
-        → IsNumberClass k.class
-    go true b c d e f g = below_class AbstractInt (2 ^ 63) (number_value w) k refl g
-    go false true c d e f g = below_class I32 (2 ^ 31) (number_value (without_last w)) k refl g
-    go false false true d e f g = below_class U32 (2 ^ 32) (number_value (without_last w)) k refl g
-    go false false false true e f g = float_class AbstractFloat w refl g
-    go false false false false true f g = float_class F32 (without_last w) refl g
-    go false false false false false true g = float_class F16 (without_last w) refl g
-    go false false false false false false g = absurd (cc)
 
 -- a character of a number is one of words, `.` or a sign
 numeral_is : (c : ℕ) → is_numeral c ≡ true → is_xid_continue c ≡ false
@@ -178,30 +120,9 @@ sign_ends x xs class c b d l n z h =
 
 -- ---- all of them
 
--- what a spelling is that begins so
-number_spelled : (x : ℕ) (xs : List ℕ) → (is_ascii_digit x || (x == 46 && not (is_empty xs))) ≡ true
-    → spells spelling (x ∷ xs) ≡ true → (begins_number x ≡ true) × (spells number_spelling (x ∷ xs) ≡ true)
-number_spelled x xs d h = (first, one_of_three (x ∷ xs) h (λ s. absurd (number_no_name x xs first s)) (λ s. s)
-    (λ s. absurd (by_either (is_ascii_digit x) (x == 46 && not (is_empty xs)) d
-    (λ e. no_digit e (spelled_first is_sign syntactic_token symbol_begins x xs s))
-    (λ e. more xs (and_parts (x == 46) (not (is_empty xs)) e).1 s))))
-  where
-    first : begins_number x ≡ true
-    first = by_either (is_ascii_digit x) (x == 46 && not (is_empty xs)) d
-        (λ e. or_left (is_ascii_digit x) (x == 46) e)
-        (λ e. or_right (is_ascii_digit x) (x == 46) (and_parts (x == 46) (not (is_empty xs)) e).0)
-
-    no_digit : is_ascii_digit x ≡ true → is_sign x ≡ true → ⊥
-    no_digit e s = (let none : is_ascii_digit x ≡ false = grind (arith, nat_tests) in true≢false (sym e ∙ none))
-
-    more : (ys : List ℕ) → not (is_empty ys) ≡ true → spells syntactic_token (x ∷ ys) ≡ true → ⊥
-    more [] e s = true≢false (sym e)
-    more (y ∷ ys) e s = number_no_symbol x [] y ys first s
-
 valued_ends : (k : Kind) (x : ℕ) (xs : List ℕ) (c : ℕ) → IsSpelling k (x ∷ xs) → goes_on k.class c ≡ false
     → EndsAt (x ∷ xs) c
-valued_ends k x xs c s n =
-    by (begins_name x) (is_ascii_digit x || (x == 46 && not (is_empty xs))) refl refl s.valued
+valued_ends k x xs c s n = go (shape k x xs s)
   where
     none : ((is_word_or_number k.class && is_xid_continue c) ≡ false) × (is_among c (continued_by k.class) ≡ false)
     none = or_none (is_word_or_number k.class && is_xid_continue c) (is_among c (continued_by k.class)) n
@@ -209,25 +130,13 @@ valued_ends k x xs c s n =
     no_letter : is_word_or_number k.class ≡ true → is_xid_continue c ≡ false
     no_letter w = ap (λ b. b && is_xid_continue c) (sym w) ∙ none.0
 
-    of_symbol : begins_name x ≡ false → (is_ascii_digit x || (x == 46 && not (is_empty xs))) ≡ false
-        → (o : Option ℕ) → look_up symbols (x ∷ xs) ≡ o → option_map plain o ≡ Some k → EndsAt (x ∷ xs) c
-    of_symbol e f None p q = absurd (cc)
-    of_symbol e f (Some class) p q =
-        let same : plain class ≡ k = cc in
-        sign_ends x xs class c e f p
-        (subst (λ (kind : Kind). is_among c (continued_by kind.class) ≡ false) (sym same) none.1)
-
-    by : (a b : Bool) → begins_name x ≡ a → (is_ascii_digit x || (x == 46 && not (is_empty xs))) ≡ b
-        → cond a (Some (kind_of_word (encode_utf8_all (x ∷ xs)))) (cond b (number_of (x ∷ xs))
-        (option_map plain (look_up symbols (x ∷ xs)))) ≡ Some k → EndsAt (x ∷ xs) c
-    by true b e f v =
-        let same : kind_of_word (encode_utf8_all (x ∷ xs)) ≡ k = cc in
-        name_ends x xs c e (no_letter (subst (λ (kind : Kind). is_word_or_number kind.class ≡ true) same
-        (word_class (encode_utf8_all (x ∷ xs)))))
-    by false true e f v =
-        let number = number_spelled x xs f s.spelled in
-        number_ends x xs k c v number.1 number.0 (no_letter (number_class (x ∷ xs) k v)) none.1
-    by false false e f v = of_symbol e f (look_up symbols (x ∷ xs)) refl v
+    go : Shape k x xs → EndsAt (x ∷ xs) c
+    go (a_name b e) = name_ends x xs c b (no_letter
+        (name_class is_word_or_number refl refl refl refl (encode_utf8_all (x ∷ xs)) k e))
+    go (a_number b w v) = number_ends x xs k c v w b
+        (no_letter (number_class is_word_or_number (x ∷ xs) (λ _. refl) refl refl refl refl refl k v)) none.1
+    go (a_sign class b d l e) = sign_ends x xs class c b d l
+        (subst (λ (kind : Kind). is_among c (continued_by kind.class) ≡ false) (sym e) none.1)
 
 -- `<`, `/` and `/=`
 slash_no_name : begins_name 47 ≡ false
