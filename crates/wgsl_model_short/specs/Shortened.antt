@@ -1,9 +1,9 @@
 -- What the shortest text of a source keeps of it.
-use Rattle.std.specs.Prelude.{◌≡◌, List, [], map, ℕ}
+use Rattle.std.specs.Prelude.{◌≡◌, ℕ, ◌≤◌, List, [], map}
 use Rattle.grammar.specs.Tokens.{Token}
 use Rattle.grammar.specs.Endings.{Ending.finished}
 use Rattle.wgsl_model.specs.Trees.Units.{TranslationUnit}
-use Rattle.wgsl_model.specs.Tokens.TokenList.{IsTokenList}
+use Rattle.wgsl_model.specs.Tokens.TokenList.{IsTokenList, width}
 use Rattle.wgsl_model.specs.Program.{IsUnit}
 use Rattle.wgsl_model.specs.Trees.StatementsWithoutSpans.{bare_unit}
 use Rattle.wgsl_model_tidy.specs.Pieces.{pieces}
@@ -30,3 +30,9 @@ pub record KeepsTokens (source text : List ℕ) : Type 0 where
   pub again : shortest text after ≡ text
   pub units : (u : TranslationUnit) → IsUnit (unmarked source) u
       → (v : TranslationUnit) × IsUnit text v × (bare_unit v ≡ bare_unit u)
+
+-- no text with the same tokens, by their classes and characters, has fewer bytes
+abbrev pub IsLeast : List ℕ → List ℕ → Type 0
+IsLeast source text = (before : List Token) → IsTokenList (unmarked source) before finished
+    → (other : List ℕ) (after : List Token) → IsTokenList other after finished
+    → token_pieces other after ≡ token_pieces (unmarked source) before → width text ≤ width other

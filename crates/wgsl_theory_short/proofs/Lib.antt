@@ -10,3 +10,4 @@ mod Reading
 mod Joined
 pub mod Kept
 mod TokenJoins
+pub mod Least
