@@ -60,4 +60,5 @@ written_more source token before gapped after space n ts us kind span last whole
 pub written_none : (source text : List ℕ) (ts : List Token) (last : ℕ) (whole : List ℕ) → ts ≡ []
     → chars text ++ joined last (token_pieces (chars source) ts) ≡ whole → chars text ≡ whole
 written_none source text ts last whole none done =
-    sym (append-nil (chars text)) ∙ ap (λ xs. chars text ++ joined last (token_pieces (chars source) xs)) (sym none) ∙ done
+    sym (append-nil (chars text))
+    ∙ ap (λ xs. chars text ++ joined last (token_pieces (chars source) xs)) (sym none) ∙ done

@@ -6,7 +6,7 @@ ghost use Rattle.wgsl_read_cursor.specs.Answers.{IsOutOfMemory};
 ghost use Rattle.wgsl_read_cursor.specs.Places.{StandsWithin};
 ghost use Rattle.wgsl_model_tidy.specs.Formatted.{unmarked};
 ghost use Rattle.wgsl_model_tidy.specs.Syntax.{IsModuleInSyntax, IsFaultAfterMark};
-ghost use Rattle.wgsl_model_short.specs.Shortened.{IsShortest, KeepsTokens};
+ghost use Rattle.wgsl_model_short.specs.Shortened.{IsShortest, KeepsTokens, IsLeast};
 
 use crate::shortest::shortest;
 use crate::source::{error_after, split_mark};
@@ -33,6 +33,8 @@ pub fn shorten(alloc: Global, source: &str) -> Result<String, Error>
         IsShortest (chars source.now) (chars (string_bytes text))) }
     ensures kept { IfOk result (λ text.
         KeepsTokens (chars source.now) (chars (string_bytes text))) }
+    ensures least { IfOk result (λ text.
+        IsLeast (chars source.now) (chars (string_bytes text))) }
 {
     shorten_within(alloc, source, usize::MAX)
 }
@@ -49,6 +51,8 @@ pub fn shorten_within(alloc: Global, source: &str, depth: usize) -> Result<Strin
         IsShortest (chars source.now) (chars (string_bytes text))) }
     ensures kept { IfOk result (λ text.
         KeepsTokens (chars source.now) (chars (string_bytes text))) }
+    ensures least { IfOk result (λ text.
+        IsLeast (chars source.now) (chars (string_bytes text))) }
 {
     let (mark, text) = split_mark(source);
     let tokens = TextTokens::within(alloc, text, depth)?;

@@ -20,7 +20,7 @@ continued_by class =
     else if class == SymGreaterThan then codes ">="
     else if is_among class (SymLessThan ∷ TemplateArgsStart ∷ []) then codes "<="
     else if is_among class (SymEqual ∷ SymBang ∷ SymStar ∷ SymModulo ∷ SymXor ∷ SymShiftLeft ∷ SymShiftRight ∷ [])
-        then codes "="
+    then codes "="
     else if class == SymPeriod then codes "0123456789"
     else if class == AbstractInt then codes "."
     else []

@@ -1,4 +1,5 @@
--- Which classes of tokens are next to one another in what a grammar derives: none of some before one
+-- Which classes of tokens are next to one another in what a grammar derives: none of some before
+-- one
 -- of others, where the rules have none so.
 use Rattle.std.proofs.Common.{◌≡◌, ℕ, zero, suc, Bool, true, false, cond, not, ◌&&◌, ◌||◌, ◌⊎◌, inl, inr, refl, sym, ap, subst, ◌∙◌, List, [], ◌∷◌, ◌++◌, append_assoc, append-nil, ◌==◌}
 use Rattle.std.proofs.lemmas.Bool.{and_parts, and_from, true≢false, or_left, or_right, eqb-true}
@@ -30,7 +31,8 @@ may_empty T (checked f g) = may_empty T g
 may_empty T (symbol n) = T.empty n
 may_empty T (left_chain f g h) = may_empty T g
 
-abbrev pub may_begin : {N : Type 0} {Value : N → Type 0} (T : Sides N) (q : List ℕ) {A : Type 0} → Grammar N Value A → Bool
+abbrev pub may_begin : {N : Type 0} {Value : N → Type 0} (T : Sides N) (q : List ℕ) {A : Type 0}
+    → Grammar N Value A → Bool
 may_begin T q (empty a) = false
 may_begin T q (token s) = meets s q
 may_begin T q (sequence g h) = may_begin T q g || (may_empty T g && may_begin T q h)
@@ -41,7 +43,8 @@ may_begin T q (checked f g) = may_begin T q g
 may_begin T q (symbol n) = T.begins n
 may_begin T q (left_chain f g h) = may_begin T q g || (may_empty T g && may_begin T q h)
 
-abbrev pub may_end : {N : Type 0} {Value : N → Type 0} (T : Sides N) (p : List ℕ) {A : Type 0} → Grammar N Value A → Bool
+abbrev pub may_end : {N : Type 0} {Value : N → Type 0} (T : Sides N) (p : List ℕ) {A : Type 0}
+    → Grammar N Value A → Bool
 may_end T p (empty a) = false
 may_end T p (token s) = meets s p
 may_end T p (sequence g h) = may_end T p h || (may_empty T h && may_end T p g)
@@ -53,7 +56,8 @@ may_end T p (symbol n) = T.ends n
 may_end T p (left_chain f g h) = may_end T p g || may_end T p h
 
 -- no part that may end with p is before one that may begin with q
-abbrev pub keeps_apart : {N : Type 0} {Value : N → Type 0} (T : Sides N) (p q : List ℕ) {A : Type 0} → Grammar N Value A → Bool
+abbrev pub keeps_apart : {N : Type 0} {Value : N → Type 0} (T : Sides N) (p q : List ℕ) {A : Type 0}
+    → Grammar N Value A → Bool
 keeps_apart T p q (empty a) = true
 keeps_apart T p q (token s) = true
 keeps_apart T p q (sequence g h) =
@@ -137,7 +141,8 @@ taken_both {p} {q} {e} {b} {d} {f} {c} {g} {xs} {ms} {ys} s t n = record {
   inside = both_apart p q s.tokens t.tokens s.inside t.inside (λ h k. clash d c n (s.last h) (t.first k));
 }
   where
-    begin : (first_among q s.tokens ≡ true) ⊎ ((s.tokens ≡ []) × (first_among q t.tokens ≡ true)) → (b || (e && c)) ≡ true
+    begin : (first_among q s.tokens ≡ true) ⊎ ((s.tokens ≡ []) × (first_among q t.tokens ≡ true))
+        → (b || (e && c)) ≡ true
     begin (inl h) = or_left b (e && c) (s.first h)
     begin (inr h) = or_right b (e && c) (and_from e c (s.no_token h.0) (t.first h.1))
 

@@ -3,7 +3,7 @@ use Rattle.std.proofs.Common.{◌≡◌, ◌⊎◌, inl, inr, ℕ, ◌==◌, Boo
 use Rattle.std.proofs.lemmas.Bool.{true≢false}
 use Rattle.wgsl_model.specs.Tokens.ClassTable.{TemplateArgsStart, TemplateArgsEnd, SymLessThan}
 use Rattle.wgsl_model.specs.Tokens.Kind.{Kind, plain}
-use Rattle.wgsl_model.specs.Tokens.Raw.{Raw.none_left, Raw.token as raw_token, raw, raw_at}
+use Rattle.wgsl_model.specs.Tokens.Raw.{Raw.token as raw_token, raw, raw_at}
 use Rattle.wgsl_model.specs.Tokens.Trivia.{outside, after_trivia, first_or_zero}
 use Rattle.wgsl_theory_grammar.proofs.Tokens.Bare.{over_blank}
 use Rattle.wgsl_theory_templates.proofs.Reaching.Reach.{Role as ListRole, Role.template_start, Role.template_end, role}
@@ -74,7 +74,8 @@ less_again k w rest i more p e = start_again start more (λ h. go w (start_text 
     start_text k w rest (is_end r) e = absurd (true≢false (sym (ap (λ c. c == TemplateArgsStart) e)))
 
     go : (v : List ℕ) → v ≡ 60 ∷ [] → Parts k v more → PartsBefore (60 ∷ []) more
-    go v q (inl f) = absurd (true≢false (sym (ap (λ c. c == TemplateArgsStart) (sym (ap (λ (j : Kind). j.class) f) ∙ e))))
+    go v q (inl f) = absurd
+        (true≢false (sym (ap (λ c. c == TemplateArgsStart) (sym (ap (λ (j : Kind). j.class) f) ∙ e))))
     go v q (inr f) = subst (λ u. PartsBefore u more) q f
 
 -- ---- the text is read along the kinds

@@ -1,8 +1,7 @@
 -- No text with the tokens of a module is shorter than the shortest text.
-use Rattle.std.proofs.Common.{◌≡◌, ℕ, ◌+◌, ◌≤◌, Bool, true, false, cond, not, ◌&&◌, refl, sym, ap, subst, ◌∙◌, List, [], ◌∷◌, ◌++◌, map, arith}
+use Rattle.std.proofs.Common.{◌≡◌, ℕ, ◌≤◌, Bool, true, false, cond, not, ◌&&◌, refl, sym, ap, subst, ◌∙◌, List, [], ◌∷◌, ◌++◌, map, arith}
 use Rattle.std.specs.Char.{encode_utf8}
 use Rattle.std.proofs.lemmas.Bool.{and_parts}
-use Rattle.unicode_ident.specs.Ident.{is_xid_continue}
 use Rattle.grammar.specs.Tokens.{Token}
 use Rattle.grammar.specs.Endings.{Ending.finished}
 use Rattle.grammar.specs.Grammar.{IsSentence, is_among}

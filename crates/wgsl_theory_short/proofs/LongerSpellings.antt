@@ -11,11 +11,11 @@ use Rattle.grammar.specs.Tables.{is_empty}
 use Rattle.wgsl_model.specs.Tokens.ClassTable.{SymForwardSlash, SymPeriod, symbols}
 use Rattle.wgsl_model.specs.Tokens.Numbers as numbers
 use Rattle.wgsl_model.specs.Tokens.Numbers.{is_nonzero_digit, is_x, is_e, is_p, decimal_number, whole_number, i_suffix, u_suffix, abstract_float, number_spelling}
-use Rattle.wgsl_model.specs.Tokens.Pattern.{Pattern, empty, one, any, both, either, begins, begins_any, spells}
+use Rattle.wgsl_model.specs.Tokens.Pattern.{Pattern, empty, one, any, both, begins, begins_any, spells}
 use Rattle.wgsl_model.specs.Tokens.Spelling.{identifier, syntactic_token, spelling}
 use Rattle.wgsl_model.specs.Tokens.Words.{look_up}
 use Rattle.wgsl_theory_grammar.proofs.Tokens.Symbols.{each_passes, found_passes}
-use Rattle.wgsl_theory_printed.proofs.Spelling.Split.{Each, Stricter, by_either, spelled_each}
+use Rattle.wgsl_theory_printed.proofs.Spelling.Split.{Each, by_either, spelled_each}
 use Rattle.wgsl_theory_printed.proofs.Spelling.Fronts.{spelled_first}
 use Rattle.wgsl_theory_printed.proofs.Spelling.Signs.{is_sign, begins_name, begins_number, number_begins, symbol_begins, one_of_three, spelled_symbol}
 use Rattle.wgsl_theory_printed.proofs.Spelling.Ends.{name_no_number, name_no_symbol}
@@ -107,9 +107,10 @@ abstract_number w h = or_right (spells (whole_number empty) w) _ (or_right (spel
     (or_right (spells (whole_number u_suffix) w) _ (or_left (spells abstract_float w) _ h)))
 
 decimal_digits : (w : List ℕ) → spells (decimal_number empty) w ≡ true → Each is_ascii_digit w
-decimal_digits w h = spelled_each is_ascii_digit (decimal_number empty)
-    (((λ c e. ap is_ascii_digit (eqb-true c 48 e)), tt),
-    ((λ c e. (and_parts (is_ascii_digit c) (not (c == 48)) e).0), ((λ c e. e), tt))) w h
+decimal_digits w h = spelled_each is_ascii_digit (decimal_number empty) (
+  ((λ c e. ap is_ascii_digit (eqb-true c 48 e)), tt),
+  ((λ c e. (and_parts (is_ascii_digit c) (not (c == 48)) e).0), ((λ c e. e), tt)),
+) w h
 
 decimal_point : (x : ℕ) (xs : List ℕ) → Each is_ascii_digit (x ∷ xs)
     → spells abstract_float ((x ∷ xs) ++ (46 ∷ [])) ≡ true

@@ -1,13 +1,13 @@
 -- A number ends before `+` and `-`.
 use Rattle.std.proofs.Common.{◌≡◌, ◌⊎◌, inl, inr, ℕ, ◌==◌, ◌&&◌, ◌||◌, not, Bool, true, false, refl, sym, ap, ap₂, subst, ◌∙◌, List, [], ◌∷◌, ◌++◌, arith}
-use Rattle.std.specs.Char.{is_ascii_digit, is_ascii_hexdigit}
-use Rattle.std.proofs.lemmas.Bool.{and_parts, true≢false, eqb-true}
+use Rattle.std.specs.Char.{is_ascii_digit}
+use Rattle.std.proofs.lemmas.Bool.{and_parts, true≢false}
 use Rattle.std.proofs.lemmas.Bool.Decides.{nat_tests}
 use Rattle.grammar.specs.Tables.{is_empty}
 use Rattle.wgsl_model.specs.Tokens.Numbers as numbers
 use Rattle.wgsl_model.specs.Tokens.Numbers.{is_nonzero_digit, is_x, is_e, is_p, is_sign, whole_number, i_suffix, u_suffix, f_suffix, h_suffix, abstract_float, float, number_spelling}
-use Rattle.wgsl_model.specs.Tokens.Pattern.{Pattern, empty, one, both, either, begins, spells}
-use Rattle.wgsl_theory_printed.proofs.Spelling.Split.{Each, Each-append, Each-last, Lets, Stricter, by_either, cut, spelled_each}
+use Rattle.wgsl_model.specs.Tokens.Pattern.{Pattern, both, begins, spells}
+use Rattle.wgsl_theory_printed.proofs.Spelling.Split.{Each, Each-append, Each-last, Lets, Stricter, by_either, cut}
 
 -- ---- what is before and after a sign
 
@@ -118,6 +118,17 @@ tail_sign q letter a t tail v z s g (inl e) = exponent_sign q letter a tail.last
 tail_sign q letter a t tail v z s g (inr e) = absurd (no_sign_in signless signless_no v z s g
     (short_signless (v ++ (s ∷ z)) (tail.short (v ++ (s ∷ z)) e)))
 
+-- the characters and what ends with the letter
+with_letter : (q letter : ℕ → Bool) (w f m : List ℕ) → w ≡ f ++ m → Each q f
+    → (c : ℕ) × (m ≡ c ∷ []) × (letter c ≡ true) → Ended q letter w
+with_letter q letter w f m e h found = record {
+  front = f;
+  last = found.0;
+  whole = e ∙ ap (λ v. f ++ v) found.1;
+  each = h;
+  lettered = found.2;
+}
+
 pub before_sign : (q letter : ℕ → Bool) → Apart q letter → (p t : Pattern) → Lets q p → Tail letter t
     → (w z : List ℕ) (s : ℕ) → is_sign s ≡ true → spells (both p t) (w ++ (s ∷ z)) ≡ true → Ended q letter w
 unfolding begins
@@ -126,14 +137,8 @@ before_sign q letter a p t l tail w z s g h =
     let m = located q c.front c.rest w z s c.each (a.signs s g) c.whole in
     let passes : begins t is_empty (m.more ++ (s ∷ z)) ≡ true =
     subst (λ r. begins t is_empty r ≡ true) m.rest c.passes in
-    let found = tail_sign q letter a t tail m.more z s g (tail.parts (m.more ++ (s ∷ z)) passes) in
-    record {
-      front = c.front;
-      last = found.0;
-      whole = m.before ∙ ap (λ v. c.front ++ v) found.1;
-      each = c.each;
-      lettered = found.2;
-    }
+    with_letter q letter w c.front m.more m.before c.each
+    (tail_sign q letter a t tail m.more z s g (tail.parts (m.more ++ (s ∷ z)) passes))
 
 -- ---- no number is such a text
 
@@ -160,7 +165,8 @@ pub no_ended : (q letter : ℕ → Bool) → Apart q letter → (p t : Pattern) 
     → (w : List ℕ) → Ended q letter w → spells (both p t) w ≡ true → ⊥
 unfolding begins
 no_ended q letter a p t l tail w n h =
-    let here : spells (both p t) (n.front ++ (n.last ∷ [])) ≡ true = subst (λ x. spells (both p t) x ≡ true) n.whole h in
+    let here : spells (both p t) (n.front ++ (n.last ∷ [])) ≡ true =
+    subst (λ x. spells (both p t) x ≡ true) n.whole h in
     let c = cut q p l (begins t is_empty) (n.front ++ (n.last ∷ [])) here in
     let m = located q c.front c.rest n.front [] n.last c.each (a.letters n.last n.lettered) c.whole in
     tail_letter q letter a t tail m.more n.last n.lettered

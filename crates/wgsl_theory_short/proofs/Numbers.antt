@@ -1,5 +1,5 @@
 -- The forms of numbers, and that none goes on with `+` or `-`.
-use Rattle.std.proofs.Common.{◌≡◌, ◌⊎◌, inl, inr, ℕ, ◌==◌, ◌&&◌, ◌||◌, not, Bool, true, false, refl, sym, ap, subst, ◌∙◌, List, [], ◌∷◌, ◌++◌, arith}
+use Rattle.std.proofs.Common.{◌≡◌, inl, inr, ℕ, ◌==◌, ◌||◌, Bool, true, false, refl, sym, ap, subst, ◌∙◌, List, [], ◌∷◌, ◌++◌, arith}
 use Rattle.std.specs.Char.{is_ascii_digit, is_ascii_hexdigit}
 use Rattle.std.proofs.lemmas.Bool.{and_parts, true≢false, eqb-true}
 use Rattle.std.proofs.lemmas.Bool.Decides.{nat_tests}
@@ -157,14 +157,16 @@ point_float : Stricter (λ c. c == 46) is_float
 point_float c h = this_one is_float 46 c refl h
 
 point_decimal : Lets is_decimal (numbers.digits_with_point is_ascii_digit)
-point_decimal =
-    (((digit_decimal, digit_decimal), ((λ c h. this_one is_decimal 46 c refl h), digit_decimal)),
-    ((λ c h. this_one is_decimal 46 c refl h), (digit_decimal, digit_decimal)))
+point_decimal = (
+  ((digit_decimal, digit_decimal), ((λ c h. this_one is_decimal 46 c refl h), digit_decimal)),
+  ((λ c h. this_one is_decimal 46 c refl h), (digit_decimal, digit_decimal)),
+)
 
 point_hexadecimal : Lets is_hexadecimal (numbers.digits_with_point is_ascii_hexdigit)
-point_hexadecimal =
-    (((hexdigit_hexadecimal, hexdigit_hexadecimal), ((λ c h. this_one is_hexadecimal 46 c refl h), hexdigit_hexadecimal)),
-    ((λ c h. this_one is_hexadecimal 46 c refl h), (hexdigit_hexadecimal, hexdigit_hexadecimal)))
+point_hexadecimal = (
+  ((hexdigit_hexadecimal, hexdigit_hexadecimal), ((λ c h. this_one is_hexadecimal 46 c refl h), hexdigit_hexadecimal)),
+  ((λ c h. this_one is_hexadecimal 46 c refl h), (hexdigit_hexadecimal, hexdigit_hexadecimal)),
+)
 
 points_float : Lets is_float (numbers.digits_with_point is_ascii_digit)
 points_float = (((digit_float, digit_float), (point_float, digit_float)), (point_float, (digit_float, digit_float)))
@@ -191,7 +193,8 @@ abstract_form w h =
     (λ e. decimal (numbers.digits is_ascii_digit) (numbers.exponent is_e)
     (digit_decimal, digit_decimal) (must is_e) ((digit_float, digit_float), exponent_float) e)
     (λ e. (let m = marked_of (either (both (numbers.digits_with_point is_ascii_hexdigit)
-    (numbers.at_most_one (numbers.exponent is_p))) (both (numbers.digits is_ascii_hexdigit) (numbers.exponent is_p))) w e in
+    (numbers.at_most_one (numbers.exponent is_p)))
+    (both (numbers.digits is_ascii_hexdigit) (numbers.exponent is_p))) w e in
     one_of_two _ _ m.digits m.spelled
     (λ g. hexadecimal m.mark m.digits (numbers.digits_with_point is_ascii_hexdigit)
     (numbers.at_most_one (numbers.exponent is_p)) m.whole m.marked point_hexadecimal (may is_p) g)
@@ -206,7 +209,8 @@ float_form n a b w h =
     (both (numbers.at_most_one (numbers.exponent is_e)) (one (λ c. c == n)))
     (point_decimal, (digit_decimal, digit_decimal)) (may_suffix is_e n a)
     ((points_float, (digit_float, digit_float)), ((exponent_float, tt), (λ c k. this_one is_float n c b k))) e)
-    (λ e. (let m = marked_of (both (either (numbers.digits_with_point is_ascii_hexdigit) (numbers.digits is_ascii_hexdigit))
+    (λ e. (let m = marked_of (both (either (numbers.digits_with_point is_ascii_hexdigit)
+    (numbers.digits is_ascii_hexdigit))
     (both (numbers.exponent is_p) (one (λ c. c == n)))) w e in
     hexadecimal m.mark m.digits
     (either (numbers.digits_with_point is_ascii_hexdigit) (numbers.digits is_ascii_hexdigit))
@@ -217,9 +221,11 @@ form : (w : List ℕ) → spells number_spelling w ≡ true → Form w
 form w h =
     one_of_two _ _ w h (λ e. whole_form empty tt tt w e)
     (λ h1. one_of_two _ _ w h1
-    (λ e. whole_form i_suffix (λ c k. this_one is_whole 105 c refl k) (λ c k. this_one is_whole_hexadecimal 105 c refl k) w e)
+    (λ e. whole_form i_suffix (λ c k. this_one is_whole 105 c refl k)
+    (λ c k. this_one is_whole_hexadecimal 105 c refl k) w e)
     (λ h2. one_of_two _ _ w h2
-    (λ e. whole_form u_suffix (λ c k. this_one is_whole 117 c refl k) (λ c k. this_one is_whole_hexadecimal 117 c refl k) w e)
+    (λ e. whole_form u_suffix (λ c k. this_one is_whole 117 c refl k)
+    (λ c k. this_one is_whole_hexadecimal 117 c refl k) w e)
     (λ h3. one_of_two _ _ w h3 (λ e. abstract_form w e)
     (λ h4. one_of_two _ _ w h4 (λ e. float_form 102 refl refl w e) (λ e. float_form 104 refl refl w e)))))
 

@@ -1,29 +1,26 @@
 -- A token of a text ends before each character that its class does not go on with.
-use Rattle.std.proofs.Common.{◌≡◌, ◌⊎◌, inl, inr, ℕ, ◌^◌, ◌==◌, ◌&&◌, ◌||◌, not, Bool, true, false, cond, refl, sym, ap, subst, ◌∙◌, List, [], ◌∷◌, ◌++◌, Option, Some, None, lit<, arith}
-use Rattle.std.specs.Prelude.{codes, bytes_eq, nat_lt, nat_le, option_map, pos}
+use Rattle.std.proofs.Common.{◌≡◌, ◌⊎◌, inl, inr, ℕ, ◌==◌, ◌&&◌, ◌||◌, not, Bool, true, false, refl, sym, ap, subst, ◌∙◌, List, [], ◌∷◌, ◌++◌, Some, lit<, arith}
+use Rattle.std.specs.Prelude.{nat_lt}
 use Rattle.std.specs.Char.{is_ascii_digit, is_ascii_alphanumeric}
 use Rattle.std.specs.Str.{encode_utf8_all}
-use Rattle.std.proofs.lemmas.Bool.{true≢false, and_parts, or_left, or_right, eqb-true, false_from_ne_true}
+use Rattle.std.proofs.lemmas.Bool.{true≢false, and_parts, eqb-true, false_from_ne_true}
 use Rattle.std.proofs.lemmas.Bool.Decides.{nat_tests}
 use Rattle.unicode_ident.specs.Ident.{is_xid_start, is_xid_continue}
 use Rattle.unicode_ident.proofs.IdentLemmas.{is_xid_start-ascii, is_xid_continue-ascii, is_xid_start-is_xid_continue}
-use Rattle.grammar.specs.Tokens.{Payload.number as number_payload}
 use Rattle.grammar.specs.Grammar.{is_among}
 use Rattle.grammar.specs.Tables.{is_empty}
-use Rattle.wgsl_model.specs.Tokens.ClassTable.{Ident, ReservedWord, SymUnderscore, SymForwardSlash, SymDivisionEqual, SymLessThan, SymPeriod, AbstractInt, I32, U32, AbstractFloat, F32, F16, TemplateArgsEnd, symbols, keywords}
-use Rattle.wgsl_model.specs.Tokens.Kind.{Kind, plain, named}
+use Rattle.wgsl_model.specs.Tokens.ClassTable.{SymForwardSlash, SymDivisionEqual, SymLessThan, SymPeriod, AbstractInt, TemplateArgsEnd, symbols}
+use Rattle.wgsl_model.specs.Tokens.Kind.{Kind, plain}
 use Rattle.wgsl_model.specs.Tokens.Numbers as numbers
 use Rattle.wgsl_model.specs.Tokens.Numbers.{number_of, number_below, float_of, number_value, without_last, whole_number, i_suffix, u_suffix, f_suffix, h_suffix, abstract_float, float, number_spelling}
-use Rattle.wgsl_model.specs.Tokens.Pattern.{empty, spells}
-use Rattle.wgsl_model.specs.Tokens.Raw.{kind_of_spelling, kind_of_word, keyword_or_name}
-use Rattle.wgsl_model.specs.Tokens.Spelling.{identifier, syntactic_token, spelling}
-use Rattle.wgsl_model.specs.Tokens.Words.{look_up, is_word_among, reserved_words}
-use Rattle.wgsl_theory_grammar.proofs.Tokens.Symbols.{each_passes, found_passes}
-use Rattle.wgsl_theory_printed.proofs.Spelling.Split.{Each, Each-last, by_either, or_none, spelled_each, takes, differs, lets_differs}
+use Rattle.wgsl_model.specs.Tokens.Pattern.{spells}
+use Rattle.wgsl_model.specs.Tokens.Spelling.{identifier}
+use Rattle.wgsl_model.specs.Tokens.Words.{look_up}
+use Rattle.wgsl_theory_printed.proofs.Spelling.Split.{Each-last, by_either, or_none, spelled_each, takes, differs, lets_differs}
 use Rattle.wgsl_theory_printed.proofs.Spelling.Fronts.{spelled_first}
 use Rattle.wgsl_theory_printed.proofs.Spelling.Scalars.{is_numeral, number_lets}
 use Rattle.wgsl_theory_printed.proofs.Spelling.Spellings.{IsSpelling, EndsAt}
-use Rattle.wgsl_theory_printed.proofs.Spelling.Signs.{is_sign, symbol_begins, begins_name, begins_number, identifier_begins, number_begins, one_of_three}
+use Rattle.wgsl_theory_printed.proofs.Spelling.Signs.{begins_name, begins_number, identifier_begins, number_begins, one_of_three}
 use Rattle.wgsl_theory_printed.proofs.Spelling.Ends.{no_such, name_no_number, name_no_symbol, number_no_name, number_no_symbol}
 use Rattle.wgsl_theory_printed.proofs.Fits.FittingWords.{point_number}
 use Rattle.wgsl_theory_printed.proofs.Fits.PointAfter.{no_point_after}
@@ -162,8 +159,10 @@ token_ends k w rest c (slash_token more r) n =
     let among = (or_none false _ n).1 in
     inr (sign_ends 47 [] SymForwardSlash c slash_no_name refl refl among, λ e. no_comment c among)
 token_ends k w rest c (is_slash_equal more r) n =
-    inr (sign_ends 47 (61 ∷ []) SymDivisionEqual c slash_no_name refl refl (or_none false _ n).1,
-    λ e. absurd (true≢false (sym e)))
+    inr (
+      sign_ends 47 (61 ∷ []) SymDivisionEqual c slash_no_name refl refl (or_none false _ n).1,
+      λ e. absurd (true≢false (sym e)),
+    )
 token_ends k w rest c (is_start more) n =
     inr (sign_ends 60 [] SymLessThan c less_no_name refl refl (or_none false _ n).1, λ e. absurd (true≢false (sym e)))
 token_ends k w rest c (is_end more) n = inl refl

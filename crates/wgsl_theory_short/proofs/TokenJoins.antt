@@ -1,17 +1,17 @@
 -- A token is not read before a character that its class goes on with, but for a number before a
 -- letter or a digit and the `<` of a template list.
-use Rattle.std.proofs.Common.{◌≡◌, ◌⊎◌, inl, inr, ℕ, ◌+◌, ◌<◌, ◌≤◌, ◌==◌, ◌&&◌, ◌||◌, not, Bool, true, false, cond, refl, sym, ap, subst, ◌∙◌, List, [], ◌∷◌, ◌++◌, length, length-append, append_assoc, Option, Some, None, lit<, arith}
+use Rattle.std.proofs.Common.{◌≡◌, ℕ, ◌+◌, ◌<◌, ◌≤◌, ◌==◌, ◌&&◌, ◌||◌, not, Bool, true, false, cond, refl, sym, ap, subst, ◌∙◌, List, [], ◌∷◌, ◌++◌, length, length-append, append_assoc, Option, Some, None, lit<, arith}
 use Rattle.std.specs.Prelude.{bytes_eq, codes}
 use Rattle.std.specs.Char.{is_ascii_digit, is_ascii_alphanumeric}
 use Rattle.std.specs.Str.{encode_utf8_all}
-use Rattle.std.proofs.lemmas.Bool.{true≢false, and_parts, or_left, or_right, eqb-true, false_from_ne_true}
+use Rattle.std.proofs.lemmas.Bool.{true≢false, and_parts, or_right, eqb-true, false_from_ne_true}
 use Rattle.std.proofs.lemmas.Bool.Decides.{nat_tests}
 use Rattle.std.proofs.lemmas.Slice.Eq.{bytes_eq-Decides}
 use Rattle.unicode_ident.specs.Ident.{is_xid_start, is_xid_continue}
 use Rattle.unicode_ident.proofs.IdentLemmas.{is_xid_start-ascii, is_xid_continue-ascii}
 use Rattle.grammar.specs.Grammar.{is_among}
 use Rattle.grammar.specs.Tables.{is_empty}
-use Rattle.wgsl_model.specs.Tokens.ClassTable.{SymForwardSlash, SymDivisionEqual, SymPeriod, SymUnderscore, AbstractInt, TemplateArgsStart, symbols}
+use Rattle.wgsl_model.specs.Tokens.ClassTable.{SymForwardSlash, SymDivisionEqual, SymPeriod, AbstractInt, TemplateArgsStart, symbols}
 use Rattle.wgsl_model.specs.Tokens.Kind.{Kind, plain}
 use Rattle.wgsl_model.specs.Tokens.Numbers.{number_of, whole_number}
 use Rattle.wgsl_model.specs.Tokens.Pattern.{empty, spells, after_spelling}
@@ -31,8 +31,8 @@ use Rattle.wgsl_theory_tidy.proofs.Kept.Readings.{IsToken, is_word, is_start, is
 use Rattle.wgsl_theory_tidy.proofs.Kept.TokenRoles.{token_starts}
 use Rattle.wgsl_theory_tidy.proofs.Kept.TokenTexts.{valued_from}
 use Rattle.wgsl_model_short.specs.Spaces.{is_word_or_number, continued_by, goes_on}
-use Rattle.wgsl_theory_short.proofs.LongerSpellings.{is_aside, name_more, whole_more, period_more, symbol_more}
-use Rattle.wgsl_theory_short.proofs.TokenShapes.{is_number_front, Shape, a_name, a_number, a_sign, shape, name_class, number_class}
+use Rattle.wgsl_theory_short.proofs.LongerSpellings.{name_more, whole_more, period_more, symbol_more}
+use Rattle.wgsl_theory_short.proofs.TokenShapes.{Shape, a_name, a_number, a_sign, shape, name_class, number_class}
 use Rattle.wgsl_theory_short.proofs.WrittenBeside.{numbers, words_and_numbers, less_and_equal}
 
 -- ---- the longest spelling is the token
@@ -83,7 +83,8 @@ only_among x c h = go (x == c) refl h
 -- the text of `.`, and of the only symbol that is a name
 abbrev known_texts : List ℕ → ℕ → Bool
 known_texts w class = (not (class == SymPeriod) || bytes_eq w (46 ∷ []))
-    && ((not (is_word_or_number class) || bytes_eq w (95 ∷ [])) && (not (class == SymForwardSlash) || bytes_eq w (47 ∷ [])))
+    && ((not (is_word_or_number class) || bytes_eq w (95 ∷ []))
+    && (not (class == SymForwardSlash) || bytes_eq w (47 ∷ [])))
 
 all_known : each_passes known_texts symbols ≡ true
 all_known = refl
@@ -186,7 +187,8 @@ slash_before x more i e m = go (x == 47) (x == 42) refl refl m
     go false true f g m =
         let same : after_trivia outside (47 ∷ (42 ∷ more)) ≡ 47 ∷ (42 ∷ more) =
         subst (λ c. after_trivia outside (47 ∷ (c ∷ more)) ≡ 47 ∷ (c ∷ more)) (eqb-true x 42 g) here in
-        too_long 47 42 more (after_trivia (in_block 0) more) (sym (block_gone more) ∙ same) (trivia-ends (in_block 0) more)
+        too_long 47 42 more (after_trivia (in_block 0) more) (sym (block_gone more) ∙ same)
+        (trivia-ends (in_block 0) more)
     go false false f g m = not_read (plain SymForwardSlash) (47 ∷ []) x more i e
         (subst (λ c. spells spelling (47 ∷ (c ∷ [])) ≡ true) (sym (only_among x 61 m))
         (spelled_symbol (47 ∷ (61 ∷ [])) (looked_up symbols (47 ∷ (61 ∷ [])) SymDivisionEqual refl)))

@@ -1,5 +1,5 @@
 -- What the characters of a token are by its kind: those of a name, a number or a symbol.
-use Rattle.std.proofs.Common.{◌≡◌, ℕ, ◌^◌, ◌==◌, ◌&&◌, ◌||◌, not, Bool, true, false, cond, refl, sym, ap, subst, ◌∙◌, List, [], ◌∷◌, ◌++◌, Option, Some, None, arith}
+use Rattle.std.proofs.Common.{◌≡◌, ℕ, ◌^◌, ◌==◌, ◌&&◌, ◌||◌, not, Bool, true, false, cond, refl, sym, subst, ◌∙◌, List, [], ◌∷◌, Option, Some, None, arith}
 use Rattle.std.specs.Prelude.{codes, bytes_eq, nat_lt, option_map, pos}
 use Rattle.std.specs.Char.{is_ascii_digit}
 use Rattle.std.specs.Str.{encode_utf8_all}
@@ -11,7 +11,7 @@ use Rattle.wgsl_model.specs.Tokens.ClassTable.{Ident, ReservedWord, SymUnderscor
 use Rattle.wgsl_model.specs.Tokens.Kind.{Kind, plain, named}
 use Rattle.wgsl_model.specs.Tokens.Numbers.{number_of, number_below, float_of, number_value, without_last, whole_number, i_suffix, u_suffix, f_suffix, h_suffix, abstract_float, float, number_spelling}
 use Rattle.wgsl_model.specs.Tokens.Pattern.{empty, spells}
-use Rattle.wgsl_model.specs.Tokens.Raw.{kind_of_spelling, kind_of_word, keyword_or_name}
+use Rattle.wgsl_model.specs.Tokens.Raw.{kind_of_word, keyword_or_name}
 use Rattle.wgsl_model.specs.Tokens.Spelling.{syntactic_token, spelling}
 use Rattle.wgsl_model.specs.Tokens.Words.{look_up, is_word_among, reserved_words}
 use Rattle.wgsl_theory_grammar.proofs.Tokens.Symbols.{each_passes, found_passes}
@@ -34,10 +34,13 @@ pub data Shape (k : Kind) (x : ℕ) (xs : List ℕ) : Type 0 where
 
 number_spelled : (x : ℕ) (xs : List ℕ) → is_number_front x xs ≡ true → spells spelling (x ∷ xs) ≡ true
     → (begins_number x ≡ true) × (spells number_spelling (x ∷ xs) ≡ true)
-number_spelled x xs d h = (first, one_of_three (x ∷ xs) h (λ s. absurd (number_no_name x xs first s)) (λ s. s)
-    (λ s. absurd (by_either (is_ascii_digit x) (x == 46 && not (is_empty xs)) d
-    (λ e. no_digit e (spelled_first is_sign syntactic_token symbol_begins x xs s))
-    (λ e. more xs (and_parts (x == 46) (not (is_empty xs)) e).1 s))))
+number_spelled x xs d h = (
+  first,
+  one_of_three (x ∷ xs) h (λ s. absurd (number_no_name x xs first s)) (λ s. s)
+      (λ s. absurd (by_either (is_ascii_digit x) (x == 46 && not (is_empty xs)) d
+      (λ e. no_digit e (spelled_first is_sign syntactic_token symbol_begins x xs s))
+      (λ e. more xs (and_parts (x == 46) (not (is_empty xs)) e).1 s))),
+)
   where
     first : begins_number x ≡ true
     first = by_either (is_ascii_digit x) (x == 46 && not (is_empty xs)) d

@@ -6,7 +6,7 @@ use Rattle.grammar.specs.Grammar.{IsSentence, Mode.unchecked}
 use Rattle.wgsl_model.specs.Tokens.ClassTable.{SymEqual, SymEqualEqual, SymLessThan, SymLessThanEqual, SymShiftLeft, SymShiftLeftAssign, SymUnderscore, Ident, ReservedWord, AbstractInt, I32, U32, AbstractFloat, F32, F16, TemplateArgsStart, keyword_classes}
 use Rattle.wgsl_model.specs.Grammar.Symbols.{Symbol, Symbol.ident, Symbol.template_list, Symbol.expressions, Symbol.arguments, Symbol.literal, Symbol.primary_expression, Symbol.singular_expression, Symbol.component, Symbol.unary_expression, Symbol.multiplicative_expression, Symbol.negated_expression, Symbol.additive_expression, Symbol.shift_expression, Symbol.relational_expression, Symbol.expression, Symbol.attribute, Symbol.compound_statement, Symbol.return_statement, Symbol.var_statement, Symbol.value_statement, Symbol.assignment, Symbol.phony_assignment, Symbol.const_assert, Symbol.case_selector, Symbol.for_init, Symbol.for_update, Symbol.unit}
 use Rattle.wgsl_model.specs.Grammar.Written.{written}
-use Rattle.wgsl_theory_short.proofs.Beside.{Sides, AreSides, may_empty, may_begin, may_end, keeps_apart, are_apart, sentence_apart}
+use Rattle.wgsl_theory_short.proofs.Beside.{Sides, may_empty, may_begin, may_end, keeps_apart, are_apart, sentence_apart}
 
 abbrev is_empty_symbol : Symbol → Bool
 is_empty_symbol unit = true

@@ -1,7 +1,7 @@
 use Rattle.std.specs.Prelude.{chars, string_bytes}
 use Rattle.wgsl_lexer.specs.TextTokens.{tokens_left, ending_left}
 use Rattle.wgsl_format_short.proofs.Refused.{IsMoved, moved_refused, moved_placed}
-use Rattle.wgsl_format_short.proofs.Results.{is_shortest, keeps}
+use Rattle.wgsl_format_short.proofs.Results.{is_shortest, keeps, is_least}
 use Rattle.wgsl_format_short.proofs.shortened.shorten_within.Goals as goal
 
 -- the error is that of the text after the mark
@@ -16,7 +16,8 @@ returns-in-Err-clause-refused c =
 
 pub returns-in-Err-clause-placed : goal.returns-in-Err-clause-placed
 returns-in-Err-clause-placed c =
-    moved_placed (chars c.split_mark-mark.result.1.now) c.split_mark-mark.result.0 _ _ c.in-Err.error c.error_after.result
+    moved_placed (chars c.split_mark-mark.result.1.now) c.split_mark-mark.result.0 _ _
+    c.in-Err.error c.error_after.result
     c.split_mark-mark.ensures.whole c.in-Err.ensures.refused c.in-Err.ensures.placed (moved c)
 
 pub returns-clause-shortest : goal.returns-clause-shortest
@@ -27,3 +28,8 @@ returns-clause-shortest c =
 
 pub returns-clause-kept : goal.returns-clause-kept
 returns-clause-kept c = keeps (chars c.args.source.now) _ (returns-clause-shortest c)
+
+pub returns-clause-least : goal.returns-clause-least
+returns-clause-least c =
+    is_least (chars c.args.source.now) (chars c.split_mark-mark.result.1.now) _ c.split_mark-mark.ensures.text
+    c.in_default.ensures.accepted (returns-clause-shortest c)

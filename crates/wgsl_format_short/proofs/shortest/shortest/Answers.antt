@@ -47,11 +47,13 @@ tokens-preserved c =
     let n = next (goal.at.tokens-preserved c).In-Some-Some in
     let others : tokens_left c.skip.new.self ≡ n.others = c.skip.ensures.left ∙ ap (drop 1) n.whole in
     record {
-      left = (c.in-Some-Some.span.end, subst (AreLeftFrom c.args.source.now c.in-Some-Some.span.end) (sym others) n.left);
+      left =
+          (c.in-Some-Some.span.end, subst (AreLeftFrom c.args.source.now c.in-Some-Some.span.end) (sym others) n.left);
       written = written_more c.args.source.now c.range-token.result.now
           (string_bytes c.tokens.text) (string_bytes c.push_str.new.self)
           (string_bytes c.push_str-in-Some-Some.new.self) c.gap.result.now c.tokens.invariant.left.0
-          (tokens_left c.tokens.tokens) (tokens_left c.skip.new.self) c.in-Some-Some.kind c.in-Some-Some.span
+          (tokens_left c.tokens.tokens)
+          (tokens_left c.skip.new.self) c.in-Some-Some.kind c.in-Some-Some.span
           (class_of_kind c.tokens.last) _ c.utf8.source (IsUtf8-string_bytes c.tokens.text)
           (IsUtf8-string_bytes c.push_str.new.self) n c.skip.ensures.left c.range-token.ensures.value
           c.gap.ensures c.in_ok-push_str.ensures.bytes c.in_ok-push_str-2.ensures.bytes
