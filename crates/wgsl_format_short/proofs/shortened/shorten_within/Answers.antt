@@ -1,4 +1,4 @@
-use Rattle.std.specs.Prelude.{chars, string_bytes}
+use Rattle.std.specs.Prelude.{chars}
 use Rattle.wgsl_lexer.specs.TextTokens.{tokens_left, ending_left}
 use Rattle.wgsl_format_short.proofs.Refused.{IsMoved, moved_refused, moved_placed}
 use Rattle.wgsl_format_short.proofs.Results.{is_shortest, keeps, is_least}
