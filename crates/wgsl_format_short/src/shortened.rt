@@ -18,12 +18,12 @@ use wgsl_read_dialect::check_syntax;
 /// How many rules of the grammar at most are inside one another for each level.
 const RULES: usize = 8;
 
-/// Returns the shortest text of a module: its tokens as they are, in order, without comments and
-/// line breaks, and between two tokens a space only where without it they might not be read as
-/// these two. A byte order mark at the start is left out. Names are not checked, so the text may
+/// Returns the shortest text that has the tokens of a module: their characters, in order, and
+/// between two tokens a space if without it they would not be read as these two. Comments, line
+/// breaks and a byte order mark at the start are left out. Names are not checked, so the text may
 /// have reserved words or attributes, address spaces or severities that `parse_str` does not know.
 /// Otherwise the error is the first token that can't be where it is; else the text that is no
-/// token; else that the text ends too early.
+/// token; else that the text ends too early. Its place counts the byte order mark.
 pub fn shorten(alloc: Global, source: &str) -> Result<String, Error>
     ensures accepted { IfOk result (λ _. IsModuleInSyntax (unmarked (chars source.now))) }
     ensures refused { IfErr result (λ e.

@@ -8,8 +8,8 @@ use Rattle.wgsl_model.specs.Tokens.ClassTable.{SymAnd, SymForwardSlash, SymBang,
 abbrev pub is_word_or_number : ℕ → Bool
 is_word_or_number class = (nat_le KwAlias class && nat_le class F16) || class == SymUnderscore
 
--- The characters that make a longer token of one of this class, or a comment of `/`; characters of
--- words aside. The `>` that ends a template list has none.
+-- The characters that are in no word and with which a token of this class is the front of another
+-- token, or `/` of a comment. For the `>` that ends a template list there is none.
 abbrev pub continued_by : ℕ → List ℕ
 continued_by class =
     if class == SymAnd then codes "&="
@@ -25,7 +25,7 @@ continued_by class =
     else if class == AbstractInt then codes "."
     else []
 
--- A token of this class may go on with this character: a space is between it and a token that
--- begins so.
+-- A token of this class may go on with this character, so a space is before a token that begins
+-- with it. A number goes on with some letters only, but no word is after a number in a module.
 abbrev pub goes_on : ℕ → ℕ → Bool
 goes_on class c = (is_word_or_number class && is_xid_continue c) || is_among c (continued_by class)
