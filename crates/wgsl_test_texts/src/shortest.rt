@@ -31,7 +31,10 @@ pub fn see_shortest(text: &str, facts: &mut Facts<'_>) -> Result<(), AllocError>
 fn has_same_tokens(alloc: Global, left: &str, right: &str) -> Result<bool, AllocError> {
     let mut left_tokens = TextTokens::new(alloc, left)?;
     let mut right_tokens = TextTokens::new(alloc, right)?;
-    while left_tokens.kind() == right_tokens.kind() {
+    for _ in 0..=left.len() {
+        if left_tokens.kind() != right_tokens.kind() {
+            return Ok(false);
+        }
         let (Some(left_span), Some(right_span)) = (left_tokens.span(), right_tokens.span()) else {
             return Ok(left_tokens.invalid().is_none() && right_tokens.invalid().is_none());
         };
@@ -46,14 +49,12 @@ fn has_same_tokens(alloc: Global, left: &str, right: &str) -> Result<bool, Alloc
 
 /// Whether the tokens of a text are others without any one of its spaces.
 fn is_each_space_needed(alloc: Global, text: &str) -> Result<bool, AllocError> {
-    for (place, space) in text.match_indices(' ') {
-        let (Some(before), Some(after)) = (text.get(..place), text.get(place + space.len()..))
+    for (place, _) in text.match_indices(' ') {
+        let (Some(before), Some(after)) = (text.get(..place), text.get(place.saturating_add(1)..))
         else {
             return Ok(false);
         };
-        let mut without = String::with_capacity(alloc, text.len())?;
-        without.push_str(before)?;
-        without.push_str(after)?;
+        let without = format!(in alloc; "{before}{after}")?;
         if has_same_tokens(alloc, text, &without)? {
             return Ok(false);
         }
