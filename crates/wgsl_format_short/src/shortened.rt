@@ -39,9 +39,9 @@ pub fn shorten(alloc: Global, source: &str) -> Result<String, Error>
     shorten_within(alloc, source, usize::MAX)
 }
 
-/// `shorten` on a stack that grows with a depth: where brackets, blocks and template lists nest
-/// deeper than a number of levels, the error is of the kind `OutOfMemory`. They are counted by the
-/// rules of the grammar, so a few more levels may be accepted.
+/// Returns what `shorten` does, on a stack that grows with a depth: where brackets, blocks and
+/// template lists nest deeper than a number of levels, the error is of the kind `OutOfMemory`. They
+/// are counted by the rules of the grammar, so a few more levels may be accepted.
 pub fn shorten_within(alloc: Global, source: &str, depth: usize) -> Result<String, Error>
     ensures accepted { IfOk result (λ _. IsModuleInSyntax (unmarked (chars source.now))) }
     ensures refused { IfErr result (λ e.

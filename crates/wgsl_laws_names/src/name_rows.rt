@@ -7,7 +7,8 @@ ghost use Rattle.wgsl_model_names.specs.Renamed.{renamed_unit};
 ghost use Rattle.wgsl_laws_names.specs.ScopeRows as row;
 ghost use Rattle.wgsl_laws_names.specs.UseRows as use_row;
 
-/// Where a declaration is in scope, and which of two with one name a use refers to.
+/// Each use of these modules refers to what is given with it: to the declaration that is in scope,
+/// or to the last of two.
 pub fn scopes()
     ensures used_before_declared { unit_referents row.used_before_declared ≡
         row.used_before_declared_referents }
@@ -26,7 +27,7 @@ pub fn scopes()
     ensures functions { unit_referents row.functions ≡ row.functions_referents }
 {}
 
-/// Which names are uses.
+/// The uses of these modules are those that are given with them.
 pub fn uses()
     ensures built_in_names { unit_referents use_row.built_in_names ≡
         use_row.built_in_names_referents }
@@ -46,7 +47,7 @@ pub fn uses()
         use_row.simple_statements_referents }
 {}
 
-/// What renaming changes.
+/// Each of these modules, renamed, is the one that is given with it.
 pub fn renamed()
     ensures members { renamed_unit (λ x. x ++ codes "1") use_row.members ≡
         use_row.renamed_members }
