@@ -8,7 +8,7 @@ use crate::nested::Parts;
 use crate::span::Span;
 
 /// The number of nodes with a span that are read inside one another.
-pub const DEEPEST: usize = 32;
+pub const DEEPEST: usize = 16;
 
 /// The kind of a node that is left out.
 #[derive(Clone, Copy, Debug)]
