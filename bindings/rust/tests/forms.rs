@@ -55,7 +55,7 @@ fn numbers_have_one_form() {
 #[test]
 fn spans_are_in_order() {
     let node = |span: &str| {
-        let text = format!(r#"{{"span":{span},"node":{{"Literal":{{"Boolean":true}}}}}}"#);
+        let text = format!(r#"{{"span":{span},"node":{{"Literal":{{"U32":4}}}}}}"#);
         from_form::<ExpressionNode>(&text).map_err(|it| (it.kind, it.place))
     };
     assert!(node("[3,7]").is_ok());
