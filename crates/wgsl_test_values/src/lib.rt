@@ -1,5 +1,5 @@
-//! Tests of values: spans, words, tokens, faults, paths, trees, names of nodes, lists and iterators
-//! of tokens, readers and writers that fail.
+//! Tests of values: spans, words, tokens, faults, paths, trees, names of nodes, new names, lists and
+//! iterators of tokens, readers and writers that fail.
 #![tactic(auto)]
 
 #[cfg(test)]
@@ -14,6 +14,8 @@ mod making;
 mod named_values;
 #[cfg(test)]
 mod names;
+#[cfg(test)]
+mod new_names;
 #[cfg(test)]
 mod nodes;
 #[cfg(test)]

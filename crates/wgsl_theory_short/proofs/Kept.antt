@@ -55,7 +55,7 @@ unread _ _ _ cs (no_token text e) q =
 unread _ _ _ cs (one_token trivia w rest k ks ps p i r) q = no_front k w rest cs i
     (sym p ∙ ap (after_trivia outside) q ∙ mark_left cs)
 
-no_mark : (text : List ℕ) (ks : List Kind) (ps : List Piece) → Tokens text ks ps → mark_of text ≡ []
+pub no_mark : (text : List ℕ) (ks : List Kind) (ps : List Piece) → Tokens text ks ps → mark_of text ≡ []
 no_mark [] ks ps h = refl
 no_mark (c ∷ cs) ks ps h = go (c == 0xFEFF) refl
   where

@@ -6,7 +6,7 @@ mod TokenShapes
 mod SymbolEnds
 mod LongerSpellings
 pub mod TokenEnds
-mod Reading
+pub mod Reading
 mod Joined
 pub mod Kept
 mod TokenJoins

@@ -1,0 +1,4 @@
+pub mod Stages
+mod Tables
+mod Prints
+mod NewModules

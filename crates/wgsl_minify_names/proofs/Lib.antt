@@ -1,0 +1,13 @@
+pub mod Lists
+pub mod Tallies
+pub mod Ranked
+pub mod Identifiers
+pub mod Shorter
+pub mod Membership
+pub mod Passed
+pub mod Outside
+pub mod Growing
+pub mod Looked
+pub mod Taken
+pub mod Serves
+pub mod Rows

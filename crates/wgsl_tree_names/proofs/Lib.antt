@@ -1,0 +1,4 @@
+pub mod Reversed
+pub mod Found
+pub mod Views
+pub mod Blocks

@@ -1,0 +1,55 @@
+//! Attributes.
+
+ghost use Rattle.wgsl_model.specs.Trees.Attributes as plain;
+ghost use Rattle.wgsl_model.specs.Trees.Spanned.{Spanned};
+ghost use Rattle.wgsl_model_names.specs.Names.{spanned_attribute_names};
+ghost use Rattle.wgsl_span.specs.View.{spanned_view};
+ghost use Rattle.wgsl_tree_attribute.specs.View.{attribute_view};
+
+use crate::collected::{Collected, Occurrence};
+use crate::named::Named;
+use std::alloc::AllocError;
+use wgsl_tree_attribute::{Attribute, AttributeNode};
+
+impl Named for AttributeNode {
+    ghost Plain = { Spanned plain.Attribute };
+
+    ghost view = { spanned_view attribute_view };
+
+    ghost names = { spanned_attribute_names };
+
+    fn put_names<'t>(&'t self, found: &mut Collected<'t>) -> Result<(), AllocError> {
+        match self.node() {
+            Attribute::Align(argument)
+            | Attribute::Binding(argument)
+            | Attribute::BlendSrc(argument)
+            | Attribute::Group(argument)
+            | Attribute::Id(argument)
+            | Attribute::Location(argument)
+            | Attribute::Size(argument) => argument.put_names(found),
+            Attribute::WorkgroupSize(inner) => {
+                inner.z.put_names(found)?;
+                inner.y.put_names(found)?;
+                inner.x.put_names(found)
+            }
+            Attribute::TypeConstraint(inner) => {
+                inner.variants.put_names(found)?;
+                found.put(Occurrence::Use(inner.ident.name()))
+            }
+            // What these have is no name of the module.
+            Attribute::If(_)
+            | Attribute::Elif(_)
+            | Attribute::Builtin(_)
+            | Attribute::Const
+            | Attribute::Invariant
+            | Attribute::MustUse
+            | Attribute::Vertex
+            | Attribute::Fragment
+            | Attribute::Compute
+            | Attribute::Else
+            | Attribute::Diagnostic(_)
+            | Attribute::Interpolate(_)
+            | Attribute::Custom(_) => Ok(()),
+        }
+    }
+}

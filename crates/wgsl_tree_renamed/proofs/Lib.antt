@@ -1,0 +1,5 @@
+mod Tables
+mod Views
+mod Chains
+mod Lists
+mod Statements
