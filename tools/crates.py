@@ -100,8 +100,15 @@ def is_static(crate, lines):
     return "staticlib" in lines[crate].partition(":")[0].split()
 
 
+def cases_of(crate):
+    """The folder of the files on which a program that is a test is run."""
+    return TOP / "crates" / crate / "cases"
+
+
 def has_only_tests(crate):
-    """Whether a crate holds nothing but tests."""
+    """Whether a crate holds nothing but tests, or is one."""
+    if cases_of(crate).is_dir():
+        return True
     root = TOP / "crates" / crate / "src/lib.rt"
     lines = root.read_text().split("\n") if root.is_file() else []
     modules = [at for at, line in enumerate(lines) if line.startswith(("mod ", "pub mod "))]

@@ -2,13 +2,14 @@
 
 All wrong bodies of a crate are put into one copy of it, which is checked once, and the prover's
 line for each function is read: the function of a wrong body has to fail by itself, and not because
-it calls one that fails. So a body in a function that other wrong ones lead to, or that has another
-body, is put into a copy of that function beside it, with its proof. Bodies for which there can be
-no copy, or that it does not show to be refused, are tried in further checks over what the first one
-proved, in their functions themselves, and of these alone. What was refused is kept below the user's
-cache folder, by the sums of everything that was read, so a later run tries only what changed. A
-body that is refused only since a proof names what the body takes away is told from the others: a
-change of a value that keeps the names says more of the contract.
+it calls one that fails. All other functions, which `rt ci` proves, are taken by their contracts
+(see stubs.py). A second body of a function is put into a copy of that function beside it, with its
+proof. Bodies for which there can be no copy, or that it does not show to be refused, are tried in
+further checks over what the first one proved, in their functions themselves, and of these alone.
+What was refused is kept below the user's cache folder, by the sums of everything that was read, so
+a later run tries only what changed. A body that is refused only since a proof names what the body
+takes away is told from the others: a change of a value that keeps the names says more of the
+contract.
 """
 import hashlib
 import json
@@ -23,6 +24,7 @@ from functools import cache
 from pathlib import Path
 
 import crates
+from stubs import Stub, put_proofs, stubs_of
 from wrong_bodies import (
     Unread, apart, bodies_of, copied_proofs, free_functions, in_copy, joined, place,
 )
@@ -38,6 +40,8 @@ GOALS = re.compile(r"`search` did not prove ((?:`[^`]*`(?:, | and )?)+)")
 ERROR = re.compile(
     r"^(?:\./)?proofs/(\S+)/\w+\.antt:\d+:\d+: error: (?:`([^`]*)`: )?(.*)", re.MULTILINE
 )
+# how a line begins of a function that is proved; the holes are those of functions without a proof
+IS_PROVED = ("no holes", "depends on a hole in ")
 # an error that only says that a proof names what the body took away
 NAMED = re.compile(r"has no field|is not in scope|has no `|was not admitted")
 # where the front end or the prover can't read a text
@@ -67,20 +71,21 @@ def is_goal_of(goal, path):
     return any(f"-{'::'.join(parts[at:])}-" in f"-{goal}" for at in range(len(parts)))
 
 
-def verdict_of(path, said):
-    """What a check says of the function at a path: a verdict if it tells one, and its reason."""
+def verdict_of(path, said, goal=""):
+    """What a check says of the function at a path, or of one of its goals: a verdict if it tells
+    one, and its reason."""
     lines = dict(LINE.findall(said))
     words = lines.get(path, "")
-    if words.startswith("proved"):
+    if words.startswith(IS_PROVED):
         return Verdict.PROVED, ""
     in_cycle = "of this cycle of calls" in words or "/+" in words
     own = [it for it in goals_of(words) if not in_cycle or is_goal_of(it, path)]
-    if own:
-        return Verdict.REFUSED, own[0]
+    if own and goal in ("", *own):
+        return Verdict.REFUSED, goal or own[0]
     told = []
-    for folder, goal, why in ERROR.findall(said):
-        if folder == path.replace("::", "/") or "+" in folder and is_goal_of(goal or "", path):
-            told.append((goal, why))
+    for folder, name, why in ERROR.findall(said):
+        if folder == path.replace("::", "/") or "+" in folder and is_goal_of(name or "", path):
+            told += [(name, why)] if goal in ("", name) else []
     real = [it for it in told if not NAMED.search(it[1])]
     if real:
         return Verdict.REFUSED, real[0][0] or real[0][1][:60]
@@ -89,7 +94,7 @@ def verdict_of(path, said):
 
 def verdict_of_body(body, said):
     """What a check says of a wrong body: it is refused where one of its functions is."""
-    found = [verdict_of(path, said) for path in body.functions]
+    found = [verdict_of(path, said, body.goal) for path in body.functions]
     for verdict in (Verdict.REFUSED, None, Verdict.NAMED, Verdict.PROVED):
         for it in found:
             if it[0] is verdict:
@@ -109,7 +114,7 @@ class Tried:
         self.folder = CRATES / crate
         self.bodies, self.verdicts, self.seconds = bodies_of(self.folder), {}, []
         self.calls, self.reaches = calls_of(crate, lines, libraries), {}
-        self.names = set(self.calls)
+        self.names, self.has_stubs = set(self.calls), True
         for body in self.bodies:
             try:
                 place(body, self.folder, self.names)
@@ -125,21 +130,29 @@ class Tried:
         return [it for it in found if it[1][0] not in verdicts]
 
     def run(self, room):
-        """Tries what is left until each body has a verdict."""
+        """Tries what is left until each body has a verdict; those that are not refused beside stubs
+        are tried once more without these."""
+        self.try_left(room)
+        if wrong := [body for body, _ in self.told(*IS_REFUSED) if body.hunks and self.has_stubs]:
+            self.has_stubs = False
+            for body in wrong:
+                del self.verdicts[body.name]
+            self.try_left(room)
+
+    def try_left(self, room):
+        """Tries what is left, all at once, and then in functions themselves what that leaves."""
         self.try_copies(room)
         while left := self.left():
             taken, _ = apart(left)
             self.settle(taken, room)
 
     def try_copies(self, room):
-        """Tries all bodies at once that can be, those in copies of their functions that others lead
-        to or that have several. Unless a text can't be read, notes what is told of those that are
-        in place, and which of the others are refused."""
-        left = self.left()
-        copies = {it.name: self.copied(it) for it in left if self.is_below(it, left)}
-        in_place, more = apart([it for it in left if not copies.get(it.name)])
-        bodies = [*in_place, *copies.values(), *map(self.copied, more)]
-        bodies = [it for it in bodies if it]
+        """Tries all bodies at once that can be, those whose function has another body in copies of
+        it. Unless a text can't be read, notes what is told of those that are in place, and which of
+        the others are refused."""
+        in_place, more = apart(self.left())
+        copies = [in_copy(body, self.folder, self.names) for body in more]
+        bodies = [*in_place, *filter(None, copies)]
         said, places = self.check(bodies, room)
         if unreadable(said, places):
             return
@@ -147,16 +160,6 @@ class Tried:
             verdict, why = verdict_of_body(body, said)
             if verdict is Verdict.REFUSED or verdict and not body.copied:
                 self.verdicts[body.name] = verdict, why
-
-    def copied(self, body):
-        return in_copy(body, self.folder, self.names)
-
-    def is_below(self, body, others):
-        """Whether the function of another body leads to that of a body, and not the reverse."""
-        own = {*body.functions}
-        below = {name for it in own for name in self.reached(it)}
-        above = {name for it in others for name in it.functions} - own - below
-        return any(own & self.reached(it) for it in above)
 
     def reached(self, name):
         """The functions of the crate that one calls, and those that these call."""
@@ -193,14 +196,16 @@ class Tried:
         self.settle(bodies[middle:], room)
 
     def check(self, bodies, room):
-        """What the prover says of the functions of some bodies, in a copy of the crate with
-        these."""
-        texts, places = joined(bodies, self.folder)
+        """What the prover says of the functions of some bodies, in a copy of the crate with these,
+        and where each is there."""
+        stubs = self.stubs(bodies) if self.has_stubs else []
+        texts, places = joined([*bodies, *stubs], self.folder)
         at = room / "crate"
         shutil.rmtree(at, ignore_errors=True)
         for part in crates.READ:
             if (self.folder / part).is_dir():
                 shutil.copytree(self.folder / part, at / part)
+        put_proofs(stubs, self.crate, at / "proofs")
         for body in bodies:
             texts |= copied_proofs(body, self.folder, self.crate)
         for path, text in texts.items():
@@ -208,10 +213,24 @@ class Tried:
             (at / path).write_text(text)
         words = [crates.kit() / "bin/rattle", "check"]
         words += crates.words(self.crate, self.lines, self.libraries)
-        words += ["--jobs", "1", "--incremental", room / "kept"]
+        words += ["--jobs", "1", "--allow-holes", "--incremental", room / "kept"]
         for path in sorted({path for body in bodies for path in body.functions}):
             words += ["--only", path]
-        return self.said([str(it) for it in words], at, room / "said.txt"), places
+        said = self.said([str(it) for it in words], at, room / "said.txt")
+        is_unread = not LINE.search(said) or any(
+            isinstance(body, Stub) for body in unreadable(said, places)
+        )
+        if stubs and is_unread:
+            self.has_stubs = False
+            return self.check(bodies, room)
+        return said, places
+
+    def stubs(self, bodies):
+        """Stubs of the functions that none of some wrong bodies is in, nor is in a cycle of calls
+        with one of these."""
+        wrong = {path for body in bodies for path in body.functions}
+        cycles = {it for path in wrong for it in self.reached(path) if path in self.reached(it)}
+        return stubs_of(self.folder, self.names, wrong | cycles)
 
     def said(self, words, at, file):
         """What the prover writes in a folder, by way of a file; counts the seconds that it takes.
@@ -268,7 +287,7 @@ def sum_of(folder):
 def sum_of_crate(crate, lines, libraries):
     """A sum of everything that a check of a crate reads, and of what reads its outcome."""
     version = subprocess.run(["rt", "version"], capture_output=True, text=True).stdout
-    sources = (__file__, crates.__file__, place.__code__.co_filename)
+    sources = (__file__, crates.__file__, *(it.__code__.co_filename for it in (place, stubs_of)))
     read = [version, lines[crate], *(Path(it).read_text() for it in sources)]
     read += [sum_of(CRATES / crate / part) for part in crates.READ]
     below = crates.with_those_below(crates.named_by(crate, lines)[0], lines)

@@ -2,9 +2,10 @@
 
 A wrong body is the pairs of lines `old:` and `new:` of an edit up to the next line that begins with
 `#` and says what is wrong in the next one. The function is the one that its lines are in; where
-they are in none, as those of a table are, a line `# fn: PATH` names it. A body may also be written
-into a copy of its function that comes after it, so that several bodies of one function, and a
-function and those that it calls, can be checked at once.
+they are in none, as those of a table are, a line `# fn: PATH` names it. A line `# goal: NAME` may
+name the goal that fails, by which several bodies of a function are told apart. A body may also be
+written into a copy of its function that comes after it, so that several bodies of one function can
+be checked at once.
 """
 import difflib
 import re
@@ -46,6 +47,8 @@ class Body:
     functions: list = field(default_factory=list)
     # the function of which it changes a copy, if it does
     copied: str = ""
+    # the goal that has to fail, if it is named
+    goal: str = ""
 
     @property
     def name(self):
@@ -53,7 +56,7 @@ class Body:
 
     @property
     def text(self):
-        return "\n".join([self.edit, *self.functions, *self.lines])
+        return "\n".join([self.edit, *self.functions, self.goal, *self.lines])
 
 
 def split(edit, text):
@@ -63,6 +66,8 @@ def split(edit, text):
         body = found[-1]
         if line.startswith("# fn: "):
             body.functions.append(line.removeprefix("# fn: ").strip())
+        elif line.startswith("# goal: "):
+            body.goal = line.removeprefix("# goal: ").strip()
         elif not line.startswith("#"):
             body.lines.append(line)
             file = [line] if line.startswith("file:") else file
@@ -264,14 +269,17 @@ def joined(bodies, folder):
 
 
 def apart(bodies):
-    """As many of some bodies as are in functions and lines of their own, and the rest."""
-    taken, left, functions, lines = [], [], set(), set()
+    """As many of some bodies as are in functions and lines of their own, or fail at goals of their
+    own, and the rest."""
+    taken, left, goals, lines = [], [], {}, set()
     for body in bodies:
         own = {(hunk.file, at) for hunk in body.hunks for at in range(hunk.first, hunk.last + 1)}
-        if functions & {*body.functions} or lines & own:
+        others = {goal for path in body.functions for goal in goals.get(path, ())}
+        if others & {"", body.goal} or others and not body.goal or lines & own:
             left.append(body)
         else:
             taken.append(body)
-            functions |= {*body.functions}
+            for path in body.functions:
+                goals.setdefault(path, set()).add(body.goal)
             lines |= own
     return taken, left

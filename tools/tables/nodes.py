@@ -1,8 +1,7 @@
 #!/usr/bin/env python3
 """Writes what follows from the fields of the nodes alone: the lists of docs/TREE.md, the types and
 the lists of nodes of the Rust crate, for its tests a text with the example of each variant and what
-prints are read as, the variants that tools/library_kinds.c looks for, and the copies of what
-variants hold that wgsl_test_memory makes.
+prints are read as, and the variants that tools/library_kinds.c looks for.
 
 Run it at the top of the repository:
 
@@ -19,7 +18,6 @@ DOCUMENT = Path("docs/TREE.md")
 RUST = Path("bindings/rust/src")
 KINDS = Path("tools/library_kinds.c")
 TEXT = Path("bindings/rust/tests/every_kind.wgsl")
-COPIES = Path("crates/wgsl_test_memory/src/variants_nodes.rt")
 WRITTEN = f"written by tools/tables/nodes.py from {TABLE}."
 # the enums that have no name, although what a variant holds has one
 UNNAMED = ["Statement"]
@@ -256,28 +254,6 @@ def write_variants(table):
     fill(KINDS, "\nstatic const struct kinds enums[] = {\n", text, "};\n")
 
 
-def copied(table, kind):
-    """The function that copies what variants of an enum hold that is not a node with a span."""
-    nodes_held = [it.name for it in nodes(table) if not it.is_spanned]
-    held = [name for name, held in kind.parts if held in nodes_held]
-    arms = [f"        {kind.name}::{name}(inner) => line.copy(inner)," for name in held]
-    others = ["        _ => {}"] * (len(held) < len(kind.parts))
-    return "\n".join([
-        f"/// Copies what a node of `{kind.name}` holds, if that is a node without a span.",
-        f"pub fn copy_in_{snake(kind.name)}<R: Print + AllocGlobal>(",
-        f"    line: &mut Line<'_, R>,", f"    node: &{kind.name},", ") {", "    match node {",
-        *arms, *others, "    }", "}", ""]) if held else None
-
-
-def write_copies(table):
-    """The functions that copy what variants hold."""
-    found = {kind.name: copied(table, kind) for kind in table.of_form("enum")}
-    found = {name: text for name, text in found.items() if text}
-    names = ", ".join(sorted(found))
-    COPIES.write_text(f"//! Copies of what variants hold, {WRITTEN}\n\nuse crate::line::Line;\n"
-                      f"use wgsl_parse::syntax::{{{names}}};\n\n" + "\n".join(found.values()))
-
-
 def main():
     table = Table()
     check(table)
@@ -286,7 +262,6 @@ def main():
     write_rust(table)
     write_text(table)
     write_variants(table)
-    write_copies(table)
 
 
 if __name__ == "__main__":

@@ -1,39 +1,22 @@
-//! Calls that copy a tree with its parts, or what is wrong with a text.
+//! Calls that copy a tree, or what is wrong with a text. The copy of a node is made by those of its
+//! parts, so each of these meets refusals too.
 
 use crate::line::Line;
 use crate::refusal::Refusal;
-use crate::{nodes, statements};
 use std::borrow::CowStr;
 use wgsl_parse::parse_str;
+use wgsl_parse::syntax::{
+    Expression, GlobalDeclaration, GlobalDirective, Statement, TranslationUnit,
+};
 
 /// Makes a call that copies, and returns whether there is one with this name.
 pub fn make_call<R: Print + AllocGlobal>(line: &mut Line<'_, R>, call: &str, text: &str) -> bool {
     match call {
-        "TranslationUnit::clone" => {
-            if let Some(unit) = line.tree(text) {
-                nodes::copy_unit(line, &unit);
-            }
-        }
-        "GlobalDirective::clone" => {
-            if let Some(directive) = line.tree(text) {
-                nodes::copy_directive(line, &directive);
-            }
-        }
-        "GlobalDeclaration::clone" => {
-            if let Some(declaration) = line.tree(text) {
-                nodes::copy_declaration(line, &declaration);
-            }
-        }
-        "Statement::clone" => {
-            if let Some(statement) = line.tree(text) {
-                statements::copy_statement(line, &statement);
-            }
-        }
-        "Expression::clone" => {
-            if let Some(expression) = line.tree(text) {
-                nodes::copy_expression(line, &expression);
-            }
-        }
+        "TranslationUnit::clone" => line.copy_tree::<TranslationUnit>(text),
+        "GlobalDirective::clone" => line.copy_tree::<GlobalDirective>(text),
+        "GlobalDeclaration::clone" => line.copy_tree::<GlobalDeclaration>(text),
+        "Statement::clone" => line.copy_tree::<Statement>(text),
+        "Expression::clone" => line.copy_tree::<Expression>(text),
         "Error::clone" => copy_error(line, text),
         _ => return false,
     }

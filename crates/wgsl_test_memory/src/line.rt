@@ -108,12 +108,14 @@ impl<'r, R: Print + AllocGlobal> Line<'r, R> {
         }
     }
 
-    /// Prints a copy of a node; after a failed allocation it is made again. The `clone` of a node
-    /// calls nothing but its `clone_with`.
-    pub fn copy<T: CloneWith + fmt::Debug>(&mut self, node: &T) {
+    /// Prints a copy of the tree of a text, if it has one; after a failed allocation it is made
+    /// again. The `clone` of a tree calls nothing but its `clone_with`.
+    pub fn copy_tree<T: FromSource + CloneWith + fmt::Debug + Drop>(&mut self, text: &str) {
         let alloc = self.alloc();
-        if self.failure.is_none() && self.is_refused(node.clone_with(alloc)) {
-            self.is_refused(node.clone_with(alloc));
+        if let Some(tree) = self.tree::<T>(text) {
+            if self.failure.is_none() && self.is_refused(tree.clone_with(alloc)) {
+                self.is_refused(tree.clone_with(alloc));
+            }
         }
     }
 }

@@ -5,13 +5,10 @@
 
 mod copies;
 mod line;
-mod nodes;
 mod parsers;
 mod refusal;
-mod statements;
 mod tokens;
 mod values;
-mod variants_nodes;
 
 use line::Line;
 use std::io;

@@ -6,6 +6,8 @@ use crate::facts::Facts;
 use crate::faults::see_fault;
 use crate::layouts::see_layout;
 use crate::literals::see_literal;
+use crate::minified::see_minified;
+use crate::names::see_names;
 use crate::paths::see_path;
 use crate::programs::Call;
 use crate::row::{Field, Row};
@@ -55,6 +57,8 @@ fn see_text(
         "parse_within" => see_depth(text, argument, facts),
         "tidy_with" => see_layout(text, argument, facts),
         "shorten" => see_shortest(text, facts),
+        "minify" => see_minified(text, argument, facts),
+        "names" => see_names(text, facts),
         "snippet" => see_snippet(text, argument, facts),
         _ => facts.expect(false, "a row says how its text is read"),
     }

@@ -11,6 +11,8 @@ mod failing;
 mod faults;
 mod layouts;
 mod literals;
+mod minified;
+mod names;
 mod paths;
 mod programs;
 mod row;
@@ -63,7 +65,6 @@ fn check_file<R: Files + Print + AllocGlobal>(rt: &R, file: &str) -> io::Result<
     for block in text.split("\n\n") {
         count = count.add(check_block(rt, file, block)?);
     }
-    println!(rt; "{file}: {} rows hold", count.held)?;
     Ok(count)
 }
 
