@@ -24,15 +24,14 @@ const LEAST_SIZE: usize = 1024;
 /// Makes a call that writes bytes, with a buffer of about a size, and again if that was too small.
 /// Returns what it wrote too.
 fn written(call: Call, text: &str, size: usize) -> (Said, Vec<u8>) {
-    let mut buffer = vec![0; size.max(LEAST_SIZE)];
+    let mut buffer = Vec::with_capacity(size.max(LEAST_SIZE));
     loop {
         let said = text_call(call, text, &mut buffer);
         let size = said.answer.size;
-        if size <= buffer.len() {
-            buffer.truncate(size);
+        if size <= buffer.capacity() {
             return (said, buffer);
         }
-        buffer = vec![0; size];
+        buffer.reserve(size);
     }
 }
 

@@ -143,7 +143,7 @@ mod tests {
     use crate::calls::{check, REFUSED};
     use crate::ffi::snippet_call;
 
-    const ROWS: &str = include_str!("../../../crates/wgsl_test_texts/data/snippets.txt");
+    const ROWS: &str = include_str!("../../../crates/wgsl_test_texts/cases/snippets.txt");
 
     /// The texts of a row, in the lines from one that begins with a word up to another word.
     fn texts(row: &str, word: &str) -> Vec<String> {

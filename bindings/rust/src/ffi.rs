@@ -166,16 +166,18 @@ pub enum Call {
     Print(u32),
 }
 
-/// Makes a call, which writes into the buffer.
-pub fn text_call(call: Call, text: &str, room: &mut [u8]) -> Said {
+/// Makes a call, which writes into the buffer as far as its capacity. The buffer has what the call
+/// wrote then, or nothing, if that does not fit.
+pub fn text_call(call: Call, text: &str, room: &mut Vec<u8>) -> Said {
+    room.clear();
     let mut answer = Answer::default();
     let (at, size) = (text.as_ptr(), text.len());
-    let (to, room_size) = (room.as_mut_ptr(), room.len());
+    let (to, room_size) = (room.as_mut_ptr(), room.capacity());
     // SAFETY: the declarations above are those of the exports. The text and the buffer are those of
-    // one `&str` and one `&mut [u8]`, which are never null, are apart from each other and from
+    // one `&str` and one `&mut Vec`, which are never null, are apart from each other and from
     // the answer, and are borrowed for the call, and no slice of Rust's is longer than the
-    // exports take; the layout lives as long as the call. An export requires nothing else, and
-    // writes nowhere else.
+    // exports take; the layout lives as long as the call. An export requires nothing else,
+    // does not read the buffer, and writes nowhere else.
     let status = unsafe {
         match call {
             Call::Format => wgsl_c_format(at, size, to, room_size, &mut answer),
@@ -186,6 +188,11 @@ pub fn text_call(call: Call, text: &str, room: &mut [u8]) -> Said {
             Call::Print(what) => wgsl_c_print(what, at, size, to, room_size, &mut answer),
         }
     };
+    if answer.size <= room_size {
+        // SAFETY: where the size is at most that of the buffer, an export has written so many
+        // bytes at its front.
+        unsafe { room.set_len(answer.size) };
+    }
     Said { status, answer }
 }
 

@@ -1,7 +1,7 @@
 //! Where a node is in its text.
 
 use crate::form::sealed::Written;
-use crate::form::{Form, FormError, FormErrorKind, Reader, Writer};
+use crate::form::{Form, FormError, Reader, Writer};
 use crate::nested::{copy, drop_node, feed, same, Nested};
 use std::fmt;
 use std::hash::{Hash, Hasher};
@@ -77,13 +77,7 @@ impl Written for Span {
     }
 
     fn read(from: &mut Reader<'_>) -> Result<Self, FormError> {
-        let place = from.place();
-        let (start, end) = Written::read(from)?;
-        if end < start {
-            let kind = FormErrorKind::SpanOrder;
-            return Err(FormError { kind, place });
-        }
-        Ok(Span { start, end })
+        from.span()
     }
 }
 
@@ -304,7 +298,7 @@ impl<T: Nested + Written> Written for Spanned<T> {
 
     fn read(from: &mut Reader<'_>) -> Result<Self, FormError> {
         from.expect("{\"span\":")?;
-        let span = Written::read(from)?;
+        let span = from.span()?;
         from.expect(",\"node\":")?;
         let spanned = from.node(span)?;
         from.expect("}")?;

@@ -73,12 +73,13 @@ macro_rules! words {
             }
 
             fn read(from: &mut Reader<'_>) -> Result<Self, FormError> {
-                let place = from.place();
-                let word = String::read(from)?;
-                word.parse().map_err(|_| FormError {
-                    kind: FormErrorKind::Expected(concat!("a word of `", stringify!($name), "`")),
-                    place,
-                })
+                $(
+                    if from.takes(concat!("\"", $word, "\"")) {
+                        return Ok($name::$variant);
+                    }
+                )*
+                let expected = concat!("a word of `", stringify!($name), "`");
+                Err(from.error(FormErrorKind::Expected(expected)))
             }
         }
 

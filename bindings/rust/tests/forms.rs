@@ -33,6 +33,10 @@ fn numbers_have_one_form() {
         kinds(r#"{"I32":-2147483648}"#),
         Ok(LiteralExpression::I32(i32::MIN))
     );
+    assert_eq!(
+        kinds(r#"{"AbstractInt":-9223372036854775808}"#),
+        Ok(LiteralExpression::AbstractInt(i64::MIN))
+    );
     for (text, kind) in [
         (r#"{"U32":}"#, FormErrorKind::Expected("a number")),
         (
@@ -45,6 +49,8 @@ fn numbers_have_one_form() {
         ),
         (r#"{"U32":-1}"#, FormErrorKind::OutOfRange),
         (r#"{"U32":4294967296}"#, FormErrorKind::OutOfRange),
+        (r#"{"U32":18446744073709551617}"#, FormErrorKind::OutOfRange),
+        (r#"{"I32":-}"#, FormErrorKind::Expected("a number")),
         (r#"{"U32":1 }"#, FormErrorKind::Expected("}")),
     ] {
         assert_eq!(kinds(text), Err(kind), "{text}");
@@ -59,6 +65,11 @@ fn spans_are_in_order() {
         from_form::<ExpressionNode>(&text).map_err(|it| (it.kind, it.place))
     };
     assert!(node("[3,7]").is_ok());
+    assert!(node("[9999999999999999999,18446744073709551615]").is_ok());
+    assert_eq!(
+        node("[0,18446744073709551616]"),
+        Err((FormErrorKind::OutOfRange, 11))
+    );
     assert_eq!(node("[7,3]"), Err((FormErrorKind::SpanOrder, 8)));
 }
 

@@ -45,32 +45,52 @@ pub fn read_all<T: Form>(text: &str) -> Result<T, FormError> {
     Ok(tree)
 }
 
-/// Returns where the nodes are in a form that are so deep inside others that they may be left out,
-/// in the order of their starts. There are none if its brackets do not match.
-pub fn deep_nodes(form: &str) -> Option<Vec<Span>> {
-    let (mut deep, mut open, mut nodes) = (Vec::new(), Vec::new(), 0usize);
-    let (mut in_text, mut escaped) = (false, false);
-    for (at, byte) in form.bytes().enumerate() {
-        match byte {
-            _ if escaped => escaped = false,
-            b'\\' if in_text => escaped = true,
-            b'"' => in_text = !in_text,
-            b'{' | b'[' if !in_text => {
-                let is_node = form[..at].ends_with("\"node\":");
-                nodes += usize::from(is_node);
-                let is_deep = is_node && nodes % DEEPEST == 0;
-                open.push((is_node, is_deep.then_some(deep.len())));
-                deep.extend(is_deep.then(|| Span::new(at..at)));
+/// Notes where a node is that begins at a byte of a form, and where those are that are so deep
+/// inside it that they may be left out of it, in the order of their starts. Returns nothing if the
+/// node does not end.
+pub fn note_deep_nodes(form: &str, start: usize, deep: &mut Vec<Span>) -> Option<()> {
+    let bytes = form.as_bytes();
+    // how many brackets are open, and before which of them a node begins, with its number if it
+    // is deep
+    let (mut open, mut nodes) = (0usize, Vec::new());
+    let mut at = start;
+    loop {
+        match bytes.get(at)? {
+            b'"' => at = end_of_text(bytes, at)?,
+            b'{' | b'[' => {
+                if open == 0 || bytes[..at].ends_with(b"\"node\":") {
+                    let is_deep = nodes.len() % DEEPEST == 0;
+                    nodes.push((open, is_deep.then_some(deep.len())));
+                    deep.extend(is_deep.then(|| Span::new(at..at)));
+                }
+                open += 1;
             }
-            b'}' | b']' if !in_text => {
-                let (is_node, number) = open.pop()?;
-                nodes -= usize::from(is_node);
-                if let Some(number) = number {
-                    deep[number].end = at + 1;
+            b'}' | b']' => {
+                open = open.checked_sub(1)?;
+                if let Some((_, number)) = nodes.last().filter(|(before, _)| *before == open) {
+                    if let Some(number) = *number {
+                        deep[number].end = at + 1;
+                    }
+                    nodes.pop();
+                }
+                if open == 0 {
+                    return Some(());
                 }
             }
             _ => {}
         }
+        at += 1;
     }
-    open.is_empty().then_some(deep)
+}
+
+/// Returns where the quotation mark is that ends a text, which begins with another.
+fn end_of_text(bytes: &[u8], start: usize) -> Option<usize> {
+    let mut at = start + 1;
+    loop {
+        match bytes.get(at)? {
+            b'"' => return Some(at),
+            b'\\' => at += 2,
+            _ => at += 1,
+        }
+    }
 }

@@ -1,6 +1,6 @@
 //! A text that is read from its front.
 
-use super::holes::{deep_nodes, Hole, Kind, DEEPEST};
+use super::holes::{note_deep_nodes, Hole, Kind, DEEPEST};
 use super::sealed::Written;
 use super::{FormError, FormErrorKind};
 use crate::nested::Nested;
@@ -16,8 +16,8 @@ pub struct Reader<'t> {
     end: usize,
     /// How many nodes with a span are being read, each inside the one before.
     depth: usize,
-    /// Where the nodes are that may be left out, once one is.
-    deep: Option<Vec<Span>>,
+    /// Where the nodes are that may be left out, as far as that is known.
+    deep: Vec<Span>,
     holes: Vec<Hole>,
 }
 
@@ -29,7 +29,7 @@ impl<'t> Reader<'t> {
             left: text,
             end: text.len(),
             depth: 0,
-            deep: None,
+            deep: Vec::new(),
             holes: Vec::new(),
         }
     }
@@ -52,6 +52,7 @@ impl<'t> Reader<'t> {
     }
 
     /// Returns an error at what is read next.
+    #[cold]
     pub fn error(&self, kind: FormErrorKind) -> FormError {
         FormError {
             kind,
@@ -62,6 +63,22 @@ impl<'t> Reader<'t> {
     /// Returns what is left out, by its number.
     pub fn hole(&self, number: usize) -> Option<Hole> {
         self.holes.get(number).copied()
+    }
+
+    /// Reads a span.
+    #[inline(always)]
+    pub fn span(&mut self) -> Result<Span, FormError> {
+        let place = self.place();
+        self.expect("[")?;
+        let start = self.number()?;
+        self.expect(",")?;
+        let end = self.number()?;
+        self.expect("]")?;
+        if end < start {
+            let kind = FormErrorKind::SpanOrder;
+            return Err(FormError { kind, place });
+        }
+        Ok(Span { start, end })
     }
 
     /// Reads a node that has a span, or leaves it out if it is very deep inside others.
@@ -82,25 +99,30 @@ impl<'t> Reader<'t> {
     /// Leaves out the node that is next, unless it is a word, and returns its number.
     #[cold]
     fn leave_out(&mut self, kind: Kind, span: Span) -> Result<Option<usize>, FormError> {
-        if self.deep.is_none() {
-            self.deep = deep_nodes(self.text);
+        if !self.left.starts_with(['{', '[']) {
+            return Ok(None);
         }
         let unclosed = FormError {
             kind: FormErrorKind::Expected("a bracket that closes each that is open"),
             place: self.text.len(),
         };
-        let deep = self.deep.as_ref().ok_or(unclosed)?;
         let at = self.place();
-        let Ok(found) = deep.binary_search_by_key(&at, |form| form.start) else {
-            return Ok(None);
+        let found = match self.deep.binary_search_by_key(&at, |form| form.start) {
+            Ok(found) => found,
+            Err(_) => {
+                let first = self.deep.len();
+                note_deep_nodes(self.text, at, &mut self.deep).ok_or(unclosed)?;
+                first
+            }
         };
-        let form = deep[found];
+        let form = self.deep[found];
         self.left = self.left.get(form.end - at..).ok_or(unclosed)?;
         self.holes.push(Hole { kind, span, form });
         Ok(Some(self.holes.len() - 1))
     }
 
     /// Takes a text, if it is next.
+    #[inline(always)]
     pub fn takes(&mut self, text: &str) -> bool {
         match self.left.strip_prefix(text) {
             Some(left) => {
@@ -112,6 +134,7 @@ impl<'t> Reader<'t> {
     }
 
     /// Takes a text, which has to be next.
+    #[inline(always)]
     pub fn expect(&mut self, text: &'static str) -> Result<(), FormError> {
         if self.takes(text) {
             Ok(())
@@ -120,50 +143,49 @@ impl<'t> Reader<'t> {
         }
     }
 
-    /// Takes what is before the first byte of which a test holds, which is one of ASCII.
-    pub fn take_until(&mut self, test: impl Fn(u8) -> bool) -> &'t str {
-        let bytes = self.left.as_bytes();
-        let end = bytes.iter().position(|byte| test(*byte));
-        let (taken, left) = self.left.split_at(end.unwrap_or(bytes.len()));
+    /// Takes what is next of a text, up to a quotation mark, a `\` or a control character.
+    #[inline(always)]
+    pub fn plain_text(&mut self) -> &'t str {
+        let is_plain = |byte| !matches!(byte, b'"' | b'\\' | 0..=0x1f);
+        let end = self.left.bytes().take_while(|byte| is_plain(*byte)).count();
+        let (taken, left) = self.left.split_at(end);
         self.left = left;
         taken
     }
 
-    /// Takes the name of a variant, if one is next, and returns whether it holds something, which
-    /// is after it.
-    pub fn variant(&mut self) -> Option<(&'t str, bool)> {
-        let holds = self.takes("{");
-        self.takes("\"").then_some(())?;
-        let name = self.take_until(|byte| byte == b'"');
-        let is_whole = self.takes(if holds { "\":" } else { "\"" });
-        is_whole.then_some((name, holds))
+    /// Takes a whole number, as it is written.
+    #[inline(always)]
+    pub fn number<T: TryFrom<u64> + FromStr>(&mut self) -> Result<T, FormError> {
+        let (count, number) = leading_number(self.left.as_bytes());
+        let is_short = (1..=EXACT_DIGITS).contains(&count);
+        if is_short && (count == 1 || !self.left.starts_with('0')) {
+            if let Ok(number) = T::try_from(number) {
+                self.left = &self.left[count..];
+                return Ok(number);
+            }
+        }
+        self.other_number()
     }
 
-    /// Takes a whole number, as it is written.
-    pub fn number<T: FromStr>(&mut self) -> Result<T, FormError> {
-        let from = self.place();
-        let wrong = |what| FormError {
-            kind: FormErrorKind::Expected(what),
-            place: from,
-        };
-        let number = self.take_until(|byte| byte != b'-' && !byte.is_ascii_digit());
-        let (sign, digits) = match number.strip_prefix('-') {
-            Some(digits) => ("-", digits),
-            None => ("", number),
-        };
-        match (sign, digits) {
-            (_, "") => return Err(wrong("a number")),
-            ("-", "0") => return Err(wrong("a number that is not 0 after `-`")),
-            (_, "0") => {}
-            _ if digits.starts_with('0') => {
-                return Err(wrong("a number without leading zeros"));
+    /// Takes a whole number that is negative or long, or is not written as numbers are.
+    #[cold]
+    #[inline(never)]
+    fn other_number<T: FromStr>(&mut self) -> Result<T, FormError> {
+        let sign = usize::from(self.left.starts_with('-'));
+        let (count, _) = leading_number(&self.left.as_bytes()[sign..]);
+        let (number, left) = self.left.split_at(sign + count);
+        let expected = match &number[sign..] {
+            "" => "a number",
+            "0" if sign == 1 => "a number that is not 0 after `-`",
+            digits if count > 1 && digits.starts_with('0') => "a number without leading zeros",
+            _ => {
+                let read = number.parse();
+                let number = read.map_err(|_| self.error(FormErrorKind::OutOfRange))?;
+                self.left = left;
+                return Ok(number);
             }
-            _ => {}
-        }
-        number.parse().map_err(|_| FormError {
-            kind: FormErrorKind::OutOfRange,
-            place: from,
-        })
+        };
+        Err(self.error(FormErrorKind::Expected(expected)))
     }
 
     /// Takes a character of a text that is written after a `\`.
@@ -184,4 +206,22 @@ impl<'t> Reader<'t> {
         self.left = &self.left[5..];
         Ok(char::from(control))
     }
+}
+
+/// How many digits a number has at most that always fits into 64 bits.
+const EXACT_DIGITS: usize = 19;
+
+/// Returns how many digits a text begins with, and the number that they are if they are not too
+/// many.
+#[inline(always)]
+fn leading_number(text: &[u8]) -> (usize, u64) {
+    let (mut count, mut number) = (0, 0u64);
+    for digit in text.iter().map(|byte| byte.wrapping_sub(b'0')) {
+        if digit > 9 {
+            break;
+        }
+        count += 1;
+        number = number.wrapping_mul(10).wrapping_add(digit.into());
+    }
+    (count, number)
 }

@@ -33,7 +33,7 @@ macro_rules! numbers {
     )*};
 }
 
-numbers!(i32 u32 i64 usize);
+numbers!(i32 u32 i64);
 
 /// Writes a text in quotes.
 pub fn write_text(text: &str, out: &mut String) {
@@ -68,18 +68,25 @@ impl Written for String {
 
     fn read(from: &mut Reader<'_>) -> Result<Self, FormError> {
         from.expect("\"")?;
-        let mut text = String::new();
-        loop {
-            text.push_str(from.take_until(|byte| matches!(byte, b'"' | b'\\' | 0..=0x1f)));
-            if from.takes("\"") {
-                return Ok(text);
-            }
-            if !from.takes("\\") {
-                return Err(from.error(FormErrorKind::Expected("the end of the text")));
-            }
-            text.push(from.escaped()?);
+        let text = from.plain_text();
+        if from.takes("\"") {
+            return Ok(text.to_owned());
         }
+        read_escapes(text.to_owned(), from)
     }
+}
+
+/// Reads the rest of a text of which a front is read, and which has a `\` next, or no end.
+#[cold]
+fn read_escapes(mut text: String, from: &mut Reader<'_>) -> Result<String, FormError> {
+    while from.takes("\\") {
+        text.push(from.escaped()?);
+        text.push_str(from.plain_text());
+    }
+    if from.takes("\"") {
+        return Ok(text);
+    }
+    Err(from.error(FormErrorKind::Expected("the end of the text")))
 }
 
 impl<T: Written> Written for Option<T> {

@@ -3,7 +3,6 @@
 use super::sealed::Written;
 use crate::nested::Inner;
 use crate::span::Span;
-use std::fmt::Write;
 use std::vec::IntoIter;
 
 /// How many expressions and statements are written inside one another. What nests deeper is
@@ -34,22 +33,42 @@ impl<'t> Writer<'t> {
     }
 
     /// Writes a text.
+    #[inline]
     pub fn push_str(&mut self, text: &str) {
         self.form.push_str(text);
     }
 
     /// Writes a character.
+    #[inline]
     pub fn push(&mut self, character: char) {
         self.form.push(character);
+    }
+
+    /// Writes a number that is not negative.
+    pub fn number(&mut self, number: usize) {
+        let mut digits = [b'0'; 20];
+        let (mut first, mut left) = (digits.len() - 1, number);
+        while left > 9 {
+            digits[first] += (left % 10) as u8;
+            left /= 10;
+            first -= 1;
+        }
+        digits[first] += left as u8;
+        self.form
+            .extend(digits[first..].iter().map(|digit| char::from(*digit)));
     }
 
     /// Writes a span.
     pub fn span(&mut self, span: Span) {
         if self.without_spans {
             self.push_str("[0,0]");
-        } else {
-            let _ = write!(self.form, "[{},{}]", span.start, span.end);
+            return;
         }
+        self.push('[');
+        self.number(span.start);
+        self.push(',');
+        self.number(span.end);
+        self.push(']');
     }
 
     /// Writes an expression or a statement, or notes that it is left out.

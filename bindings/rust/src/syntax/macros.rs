@@ -96,14 +96,8 @@ macro_rules! enums {
             }
 
             fn read(from: &mut Reader<'_>) -> Result<Self, FormError> {
-                let place = from.place();
-                if let Some((name, holds)) = from.variant() {
-                    $(read_variant!(from, name, holds, $name $variant $(($held))?);)*
-                }
-                Err(FormError {
-                    kind: FormErrorKind::Expected(concat!("a `", stringify!($name), "`")),
-                    place,
-                })
+                $(read_variant!(from, $name $variant $(($held))?);)*
+                Err(from.error(FormErrorKind::Expected(concat!("a `", stringify!($name), "`"))))
             }
         }
 
@@ -164,17 +158,17 @@ macro_rules! write_variant {
     }};
 }
 
-/// Reads a variant if it has the name.
+/// Reads a variant if it is next.
 macro_rules! read_variant {
-    ($from:ident, $read:ident, $holds:ident, $name:ident $variant:ident) => {
-        if $read == stringify!($variant) && !$holds {
+    ($from:ident, $name:ident $variant:ident) => {
+        if $from.takes(concat!("\"", stringify!($variant), "\"")) {
             #[cfg(test)]
             super::kinds::note(stringify!($name), stringify!($variant));
             return Ok($name::$variant);
         }
     };
-    ($from:ident, $read:ident, $holds:ident, $name:ident $variant:ident ($held:ty)) => {
-        if $read == stringify!($variant) && $holds {
+    ($from:ident, $name:ident $variant:ident ($held:ty)) => {
+        if $from.takes(concat!("{\"", stringify!($variant), "\":")) {
             #[cfg(test)]
             super::kinds::note(stringify!($name), stringify!($variant));
             let held = Written::read($from)?;

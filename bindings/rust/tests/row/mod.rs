@@ -58,7 +58,7 @@ fn rows_of(name: &str, data: &str) -> Vec<Row> {
 /// Returns all rows.
 pub fn rows() -> Vec<Row> {
     let top = PathBuf::from(env!("CARGO_MANIFEST_DIR")).join("../..");
-    let mut names: Vec<_> = ["tests/rows", "crates/wgsl_test_texts/data"]
+    let mut names: Vec<_> = ["tests/rows", "crates/wgsl_test_texts/cases"]
         .iter()
         .flat_map(|folder| fs::read_dir(top.join(folder)).expect("the rows are there"))
         .map(|entry| entry.expect("a file").path())
