@@ -52,7 +52,7 @@ def struct_fields(kind, apart=()):
     """That the fields of a struct are read; of those of some types the name and the value apart."""
     parts, number = "", 0
     for name, held in kind.parts:
-        lemma, facts = "next" if parts else "first", read(name)
+        lemma, facts = "next" if parts else "first", f"{read(name)}.read"
         if held.rstrip("*?") in apart:
             number += 1
             lemma, facts = f"{lemma}_apart", f"{read(counted('expect', number))} {facts}"

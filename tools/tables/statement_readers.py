@@ -11,8 +11,10 @@ It reads crates/wgsl_model/nodes. What a statement holds that is not a statement
 from form_answers import (HERE, answer, answers_text, argument, found_in, list_codes,
                           read, struct_fields)
 from form_readers import CRATE, expect, held_arm, read_function, word_arm
+from form_taken import names_texts
+import statement_taken
 from node_table import TABLE, Table, snake
-from plain_trees import OWN, coded, is_apart
+from plain_trees import OWN, coded, constructor, is_apart
 from statement_cycle import ROOT, VIEW, Cycle, listed
 import tree_forms
 from tree_forms import CODES, TREES
@@ -34,17 +36,23 @@ def parted(cycle):
             [it for it in parts if it[1] not in cycle.names])
 
 
-def function(head, type_, value, code, body):
-    """A function, whose clause says the code whose form it reads."""
+def function(head, type_, value, code, plain, body):
+    """A function, whose clauses say the code whose form it reads, and of which values."""
     return (f"{head}(alloc: Global, reader: &mut Reader) -> Result<{type_}, FormError>\n"
-            f"    ensures {{ IfOk result (λ {value}. IsRead\n        ({code})\n"
-            f"        reader.old reader.new) }}\n{{\n{body}\n}}\n")
+            f"    ensures read {{ IfOk result (λ {value}. IsRead\n        ({code})\n"
+            f"        reader.old reader.new) }}\n"
+            f"    ensures taken {{ {plain} result reader.old reader.new }}\n{{\n{body}\n}}\n")
 
 
-def in_cycle(name, type_, value, code, body):
+def in_cycle(name, type_, value, code, plain, body):
     """A function of the cycle."""
     head = f"#[cycle(statements)]\nfn {name}"
-    return function(head, type_, value, code, body)
+    return function(head, type_, value, code, plain, body)
+
+
+def taken(type_, code):
+    """That each value of a type is read where its form is next."""
+    return f"(value : {type_}) → IsTakenWhereNext ({code} value)"
 
 
 def struct_body(cycle, kind):
@@ -75,17 +83,16 @@ def chosen(arms, otherwise):
 
 def node_body():
     """What reads a statement with its span."""
-    return "".join([expect('{\\"span\\":'), "let span = reader.read_span()?;",
-                    expect(',\\"node\\":'), "let node = read_statement(alloc, reader)?;",
+    return "".join(["let span = read_place(reader)?;", "let node = read_statement(alloc, reader)?;",
                     expect("}"), "Ok(Spanned::new(alloc, node, span)?)"])
 
 
 def list_body(read):
     """What reads a list."""
-    push = f"nodes.push({read}(alloc, reader)?)?;"
     return "".join([expect("["), "let mut nodes = Vec::new(alloc);",
-                    'if reader.eat("]") { return Ok(nodes); }', push,
-                    f"'nodes: while reader.eat(\",\") {{ {push} }}", expect("]"), "Ok(nodes)"])
+                    'if reader.eat("]") { return Ok(nodes); }', "'nodes: loop {",
+                    f"nodes.push({read}(alloc, reader)?)?;",
+                    'if reader.eat("]") { return Ok(nodes); }', expect(","), "}"])
 
 
 def optional_body(read):
@@ -105,25 +112,32 @@ def functions(cycle):
                             f"read_{snake(kind.name)}(alloc, reader)")
     nested, simple = parted(cycle)
     root, code = cycle.by_name[ROOT], "statement_code (statement_view node)"
-    arms = [(held_arm if held else word_arm)(root, name) for name, held in simple]
+    arms = [(held_arm if held else word_arm)(root, name, held) for name, held in simple]
     error = 'Err(reader.error(FormErrorKind::Expected("a statement")))'
-    yield function("fn read_simple_statement", ROOT, "node", code, chosen(arms, error))
+    yield function("fn read_simple_statement", ROOT, "node", code,
+                   "(value : plain.Statement) → IsSimple value → IsTakenWhereNext (statement_code value)",
+                   chosen(arms, error))
     arms = [nested_arm(cycle, name, held) for name, held in nested]
-    yield in_cycle("read_statement", ROOT, "node", code,
+    yield in_cycle("read_statement", ROOT, "node", code, taken("plain.Statement", "statement_code"),
                    chosen(arms, "read_simple_statement(alloc, reader)"))
     yield in_cycle("read_statement_node", "StatementNode", "node",
-                   "statement_node_code (statement_node_view node)", node_body())
+                   "statement_node_code (statement_node_view node)",
+                   taken("plain.StatementNode", "statement_node_code"), node_body())
     for kind in cycle.kinds[1:]:
+        whole = cycle.whole(kind.name)
         yield in_cycle(f"read_{snake(kind.name)}", kind.name, "node",
-                       f"{cycle.whole(kind.name)} ({snake(kind.name)}_view node)",
-                       struct_body(cycle, kind))
+                       f"{whole} ({snake(kind.name)}_view node)",
+                       taken(statement_taken.plain(kind), whole), struct_body(cycle, kind))
     for held in cycle.lists:
         yield in_cycle(reader(cycle, held), f"Vec<{cycle.node(held[:-1])}>", "nodes",
                        f"list ({coded(OWN[held][0])} ({cycle.shown(held, 'nodes.items')}))",
+                       f"(value : plain.{OWN[held][0]}) → "
+                       f"IsTakenWhereNext (list ({coded(OWN[held][0])} value))",
                        list_body(reader(cycle, held[:-1])))
     for held in cycle.optional:
         yield in_cycle(reader(cycle, held), f"Option<{cycle.node(held[:-1])}>", "part",
                        f"{coded(OWN[held][0])} ({cycle.shown(held, 'part')})",
+                       taken(f"plain.{OWN[held][0]}", coded(OWN[held][0])),
                        optional_body(reader(cycle, held[:-1])))
 
 
@@ -138,9 +152,12 @@ def head(cycle, text):
               f"{CODES}.Code.{{attributed_code, list}}",
               f"{CODES}.StatementNodes.{{{listed(map(coded, codes))}}}",
               f"{VIEW}.{{{listed(views)}}}",
-              "Rattle.wgsl_form_reader.specs.Reading.{IsRead}"]
-    uses = ["crate::part::{read_field, read_held}", "crate::traits::FromForm",
-            "std::alloc::Global", "wgsl_form_reader::{FormError, FormErrorKind, Reader}",
+              "Rattle.wgsl_form_reader.specs.Reading.{IsRead}",
+              f"{TREES}.Attributed.{{Attributed}}",
+              "Rattle.wgsl_form_trees.specs.Reading.{IsTakenWhereNext}",
+              "Rattle.wgsl_form_trees.specs.Simple.{IsSimple}"]
+    uses = ["crate::part::{read_between, read_field}", "crate::text::read_place",
+            "crate::traits::FromForm", "std::alloc::Global", "wgsl_form_reader::{FormError, FormErrorKind, Reader}",
             "wgsl_span::Spanned", f"wgsl_tree_statement::{{{listed(types)}}}"]
     return [f"//! Written by tools/tables/statement_readers.py from {TABLE}: statements.", "",
             *(f"ghost use {it};" for it in ghosts), "", *(f"use {it};" for it in uses), ""]
@@ -164,8 +181,10 @@ def invariants(cycle):
         name = reader(cycle, held)
         yield (f"abbrev pub invariant-{name}-nodes : goal.invariant-{name}-nodes\n"
                f"invariant-{name}-nodes l = record {{\n"
-               f"  opened : IsOpened {cycle.item(held)}\n"
-               f"      l.nodes.items (rest l.fn.reader) (rest l.reader);\n"
+               f"  opened : rest l.fn.reader ≡ codes \"[\"\n"
+               f"      ++ (ended {cycle.item(held)} l.nodes.items ++ rest l.reader);\n"
+               f"  left : (more : List ℕ) → WasNext {coded(cycle.node(held[:-1]))} (rest l.fn.reader) more\n"
+               f"      → IsLeft {coded(cycle.node(held[:-1]))} more (rest l.reader);\n"
                f"  shorter : length (rest l.reader) < length (rest l.fn.reader);\n"
                f"}}\n")
         yield (f"abbrev pub decreases-{name}-nodes : goal.decreases-{name}-nodes\n"
@@ -175,11 +194,11 @@ def invariants(cycle):
 def invariants_text(cycle):
     """The text of Invariants.antt."""
     items = [cycle.node(held[:-1]) for held in cycle.lists]
-    uses = ["Rattle.std.proofs.Common.{◌≡◌, ◌<◌, ◌+◌, ◌*◌, length}",
+    uses = ["Rattle.std.proofs.Common.{ℕ, List, codes, ◌≡◌, ◌<◌, ◌+◌, ◌++◌, ◌*◌, length}",
             f"{CODES}.StatementNodes.{{{listed(map(coded, items))}}}",
             f"{VIEW}.{{{listed(f'{snake(it)}_view' for it in items)}}}",
             "Rattle.wgsl_form_reader.specs.Reading.{rest}",
-            f"{MINE}.Lists.{{IsOpened}}", f"{MINE}.statement_nodes.+statements.Given as goal"]
+            f"{MINE}.Lists.{{IsLeft, WasNext, ended}}", f"{MINE}.statement_nodes.+statements.Given as goal"]
     return "\n".join([*(f"use {it}" for it in uses), "", *invariants(cycle)])
 
 
@@ -187,25 +206,9 @@ def struct_answer(cycle, kind):
     """The answer for a struct: what it is as plain data, and that its fields are read."""
     apart = len(kind.parts) if any(held in cycle.optional for _, held in kind.parts) else 1
     rolled = f"({snake(kind.name)}_roll{' _' * apart})"
-    return answer(f"read_{snake(kind.name)}-returns", "t c",
+    return answer(f"read_{snake(kind.name)}-returns-clause-read", "t c",
                   f"node_read (ap {argument(cycle.whole(kind.name))} {rolled})\n    "
                   + struct_fields(kind, cycle.names))
-
-
-def list_answers(cycle, held):
-    """The answers for a list: that a further item was read, and all were."""
-    name, item, code = reader(cycle, held), reader(cycle, held[:-1]), cycle.item(held)
-    step = f"(c.nodes-test.ensures.eaten refl) {read(f'{item}-2')}"
-    yield answer(f"{name}-nodes-preserved", "t c",
-                 f"record {{\n  opened = one_more {code}\n      c.nodes.nodes.items _ _ _ _ _ _"
-                 f" {read('push-2')}.items\n      c.nodes.invariant.opened {step};\n"
-                 f"  shorter = shorter_still {code}\n"
-                 f"      c.in_ok-{item}-2.field-0 _ _ _ _ {step}\n"
-                 "      c.nodes.invariant.shorter;\n}")
-    yield answer(f"{name}-returns", "t c",
-                 f"read_as _ (ap list ({coded(OWN[held][0])}s _))\n    (all_read {code}\n"
-                 "    c.nodes.nodes.items _ _ _ c.nodes.invariant.opened\n"
-                 f"    (sym (c.nodes-test.ensures.kept refl) ∙ {read('expect-2')}))")
 
 
 def made(name):
@@ -216,34 +219,64 @@ def made(name):
 def nested_answers(cycle):
     """The answers for the variants that lead back to statements."""
     for name, _ in parted(cycle)[0]:
-        facts = f"{read(f'expect-in-{name}')} {read(f'inner-in-{name}')}"
-        yield answer(f"read_statement-returns-in_ok-expect-in-{name}-2", "t c",
+        facts = f"{read(f'expect-in-{name}')} {read(f'inner-in-{name}')}.read"
+        yield answer(f"read_statement-returns-in_ok-expect-in-{name}-2-clause-read", "t c",
                      f"node_read {made(name)}\n    (first_apart {facts}\n"
                      f"    (last {read(f'expect-in-{name}-2')}))")
 
 
-def simple_answers(cycle):
+def simple_answers(table, cycle):
     """The answers for the other variants."""
+    root = cycle.by_name[ROOT]
     for name, held in parted(cycle)[1]:
         if held:
-            yield answer(f"returns-in_ok-inner-in-{name}", "c",
-                         f"node_read {made(name)} (held {read(f'inner-in-{name}')})")
+            yield answer(f"returns-in_ok-inner-in-{name}-clause-read", "c",
+                         f"read_as _ {made(name)} {read(f'inner-in-{name}')}.read")
+    yield from statement_taken.simple_answers(table, root, parted(cycle)[1])
+
+
+def simple_text(cycle):
+    """The definition of the statements that have no others in them."""
+    makers = [constructor(cycle.by_name[ROOT], name) for name, _ in parted(cycle)[0]]
+    names = ", ".join(["Statement", "statement", *makers])
+    lines = [f"IsSimple (statement attributes ({maker} x)) = ⊥" for maker in makers]
+    return "\n".join([f"use {TREES}.Statements.{{{names}}}", "",
+                      "abbrev pub IsSimple : Statement → Type 0", *lines, "IsSimple s = Unit {0}", ""])
 
 
 def main():
-    cycle = Cycle(Table())
-    answers = [*nested_answers(cycle), *(struct_answer(cycle, it) for it in cycle.kinds[1:]),
-               *(it for held in cycle.lists for it in list_answers(cycle, held))]
+    table = Table()
+    cycle = Cycle(table)
+    names_texts(table)
+    root = cycle.by_name[ROOT]
+    answers = [*nested_answers(cycle), *(struct_answer(cycle, it) for it in cycle.kinds[1:])]
+    for kind in cycle.kinds[1:]:
+        answers += statement_taken.struct_answers(table, cycle, kind)
+    for name, _ in parted(cycle)[0]:
+        answers += statement_taken.nested_answers(table, root, name)
+    answers += statement_taken.default_answers(root, parted(cycle)[0])
+    answers += statement_taken.node_answers()
+    for held in cycle.optional:
+        answers += statement_taken.optional_answers(reader(cycle, held), coded(OWN[held][0]), held)
+    for held in cycle.lists:
+        own = coded(OWN[held][0])
+        answers += statement_taken.list_answers(
+            reader(cycle, held), reader(cycle, held[:-1]), cycle.item(held), own.replace("_code", "_are"),
+            own, coded(cycle.node(held[:-1])))
+    (CRATE / "proofs/StatementsNext.antt").write_text(
+        wrote("statements where they are next") + statement_taken.lemmas_text(table, cycle))
     text = "\n".join(functions(cycle))
     texts = {"src/statement_nodes.rt": "\n".join([*head(cycle, text), text]),
+             "specs/Simple.antt": wrote("statements with no others in them") + simple_text(cycle),
              "proofs/StatementLists.antt": wrote("the codes of lists") + list_codes(cycle),
              f"{PROOFS}/+statements/Invariants.antt": wrote("measures") + invariants_text(cycle)}
     for place, proof in {"+statements": answers,
-                         "read_simple_statement": simple_answers(cycle)}.items():
+                         "read_simple_statement": list(simple_answers(table, cycle))}.items():
         body = "\n".join(proof)
-        text = answers_text(CRATE.name, f"statement_nodes/{place}", body, found_in(body))
+        text = statement_taken.answers_text(f"statement_nodes/{place}", body, found_in(body))
         texts[f"{PROOFS}/{place}/Answers.antt"] = wrote("a proof") + text
     for file, text in texts.items():
+        (CRATE / file).parent.mkdir(parents=True, exist_ok=True)
         (CRATE / file).write_text(text)
 
 

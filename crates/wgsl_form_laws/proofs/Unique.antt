@@ -11,7 +11,7 @@ use Rattle.wgsl_form_laws.proofs.Digits.{IsNumeral, decimal_numeral, numbers}
 use Rattle.wgsl_form_laws.proofs.Escapes.{texts}
 
 -- ---- how forms begin
-abbrev sort : Code → ℕ
+abbrev pub sort : Code → ℕ
 sort absent = 0
 sort (boolean b) = 1
 sort (number n) = 2
@@ -59,7 +59,7 @@ form_sort (text bytes) r = refl
 form_sort (list items) r = refl
 form_sort (node fs) r = refl
 
-same_sort : (c d : Code) (r s : List ℕ) → form c ++ r ≡ form d ++ s → sort c ≡ sort d
+pub same_sort : (c d : Code) (r s : List ℕ) → form c ++ r ≡ form d ++ s → sort c ≡ sort d
 same_sort c d r s e = sym (form_sort c r) ∙ ap begun e ∙ form_sort d s
 
 booleans : (a b : Bool) (r s : List ℕ) → form (boolean a) ++ r ≡ form (boolean b) ++ s → (a ≡ b) × (r ≡ s)
@@ -69,7 +69,7 @@ booleans true false r s e = absurd (omega (arith, ap (λ l. get_or l 0 0) e))
 booleans false true r s e = absurd (omega (arith, ap (λ l. get_or l 0 0) e))
 
 -- ---- the end of a list
-no_item : (d : Code) (ds : Codes) (r s : List ℕ) → 93 ∷ r ≡ (form d ++ further_items ds) ++ s → ⊥
+pub no_item : (d : Code) (ds : Codes) (r s : List ℕ) → 93 ∷ r ≡ (form d ++ further_items ds) ++ s → ⊥
 no_item d ds r s e =
     omega (
       arith,
@@ -123,7 +123,7 @@ mutual
       let parts = fields_apart fs gs r s fits (ap (drop 1) e) in (ap node parts.0, parts.1)
   told_apart c d r s fits h k e = absurd (omega (arith, same_sort c d r s e))
 
-  items_apart : (cs ds : Codes) (r s : List ℕ) → ItemsFit cs
+  pub items_apart : (cs ds : Codes) (r s : List ℕ) → ItemsFit cs
       → items_form cs ++ r ≡ items_form ds ++ s → (cs ≡ ds) × (r ≡ s)
   items_apart no_codes no_codes r s fits e = (refl, ap (drop 1) e)
   items_apart no_codes (code_before d ds) r s fits e = absurd (no_item d ds r s e)

@@ -8,9 +8,10 @@ use Rattle.std.specs.Char.{encode_utf8}
 use Rattle.std.specs.Fmt.{digit_glyph}
 use Rattle.std.proofs.lemmas.Bool.Decides.{nat_tests}
 use Rattle.std.proofs.lemmas.Str.{char_from_byte}
-use Rattle.wgsl_tree_code.specs.Form.{escaped, escaped_byte, quoted}
+use Rattle.wgsl_tree_code.specs.Code.{Code, text, node, field}
+use Rattle.wgsl_tree_code.specs.Form.{escaped, escaped_byte, form, further_fields, quoted}
 use Rattle.wgsl_form_laws.proofs.Escapes.{bytes, no_mark}
-use Rattle.wgsl_form_reader.specs.Texts.{is_plain, BeginsWithoutPlain}
+use Rattle.wgsl_form_reader.specs.Texts.{is_plain, AllPlain, BeginsWithoutPlain, HasPlainName, name_of}
 use Rattle.wgsl_form_reader.proofs.Texts.{plain_byte}
 
 -- ---- hexadecimal digits
@@ -108,6 +109,38 @@ no_text s plain all before now read further mark whole escape t more e =
     let first = front s t before more (ap (drop 1) (sym read ∙ e) ∙ append_assoc (escaped t) (34 ∷ []) more) in
     let second = front plain first.0 now more (sym further ∙ first.1) in
     no_rest second.0 now more mark whole escape second.1
+
+-- no word is next
+pub no_word : (s now : List ℕ) → ((u : List ℕ) → now ≢ 34 ∷ u) → BeginsWithoutPlain now
+    → (word more : List ℕ) → AllPlain word → escaped s ++ now ≡ escaped word ++ (34 ∷ more) → ⊥
+no_word [] now mark whole [] more h e = mark more e
+no_word [] now mark whole (y ∷ word) more h e =
+    true≢false (sym h.0 ∙ subst BeginsWithoutPlain (e ∙ append_assoc (escaped_byte y) (escaped word) (34 ∷ more)
+    ∙ ap (λ z. z ++ (escaped word ++ (34 ∷ more))) (plain_byte y h.0)) whole)
+no_word (x ∷ s) now mark whole [] more h e = no_mark x (escaped s ++ now) more
+    (sym e ∙ append_assoc (escaped_byte x) (escaped s) now)
+no_word (x ∷ s) now mark whole (y ∷ word) more h e =
+    no_word s now mark whole word more h.1 (bytes x y (escaped s ++ now) (escaped word ++ (34 ∷ more))
+    (sym (append_assoc (escaped_byte x) (escaped s) now) ∙ e
+    ∙ append_assoc (escaped_byte y) (escaped word) (34 ∷ more))).1
+
+-- ---- names
+regroup : (name value more rest : List ℕ)
+    → (((name ++ codes ":") ++ value) ++ more) ++ rest ≡ name ++ (codes ":" ++ (value ++ (more ++ rest)))
+regroup name value more rest = simp append_assoc
+
+-- the name that is next, after the bracket of a variant
+pub name_next : (bracket : Bool) (all now : List ℕ) → (bracket ≡ true → all ≡ 123 ∷ now)
+    → (bracket ≡ false → now ≡ all) → (bracket ≡ false → (u : List ℕ) → all ≢ 123 ∷ u)
+    → (c : Code) → HasPlainName c → (more : List ℕ) → all ≡ form c ++ more
+    → AllPlain (name_of c) × ((rest : List ℕ) × (now ≡ quoted (name_of c) ++ rest))
+name_next true all now eaten kept refused (text name) plain more e =
+    absurd (omega (arith, ap (λ l. get_or l 0 0) (sym (eaten refl) ∙ e)))
+name_next false all now eaten kept refused (text name) plain more e = (plain, (more, kept refl ∙ e))
+name_next true all now eaten kept refused (node (field name value fs)) plain more e =
+    (plain, (_, ap (drop 1) (sym (eaten refl) ∙ e) ∙ regroup (quoted name) (form value) (further_fields fs) more))
+name_next false all now eaten kept refused (node (field name value fs)) plain more e = absurd (refused refl _ e)
+name_next bracket all now eaten kept refused c plain more e = absurd plain
 
 -- ---- characters that are written as they are
 stops : (bs : List ℕ) → BeginsWithoutPlain (drop (prefix_len is_plain bs) bs)

@@ -21,6 +21,7 @@ impl<'t> Reader<'t> {
     /// Reads a `u32`.
     pub fn read_u32(&mut self) -> Result<u32, FormError>
         ensures read { IfOk result (λ n. IsRead (natural n) self.old self.new) }
+        ensures whole { OnOk result (BeginsWithoutDigit (rest self.new)) }
         ensures refused { OnErr result ((n : ℕ) → n < 2 ^ 32 → IsNoForm (natural n) self.old) }
     {
         Ok(self.read_natural(u64::from(u32::MAX))? as u32)
@@ -29,6 +30,7 @@ impl<'t> Reader<'t> {
     /// Reads an `i32`.
     pub fn read_i32(&mut self) -> Result<i32, FormError>
         ensures read { IfOk result (λ n. IsRead (number n) self.old self.new) }
+        ensures whole { OnOk result (BeginsWithoutDigit (rest self.new)) }
         ensures refused { OnErr result ((n : ℤ) → negsuc (2 ^ 31 - 1) ≤ℤ n → n ≤ℤ pos (2 ^ 31 - 1) →
             IsNoForm (number n) self.old) }
     {
@@ -38,6 +40,7 @@ impl<'t> Reader<'t> {
     /// Reads an `i64`.
     pub fn read_i64(&mut self) -> Result<i64, FormError>
         ensures read { IfOk result (λ n. IsRead (number n) self.old self.new) }
+        ensures whole { OnOk result (BeginsWithoutDigit (rest self.new)) }
         ensures refused { OnErr result ((n : ℤ) → negsuc (2 ^ 63 - 1) ≤ℤ n → n ≤ℤ pos (2 ^ 63 - 1) →
             IsNoForm (number n) self.old) }
     {
@@ -49,6 +52,7 @@ impl<'t> Reader<'t> {
         requires digit { 9 ≤ max }
         requires fits { max < 2 ^ 63 }
         ensures read { IfOk result (λ n. IsRead (number n) self.old self.new) }
+        ensures whole { OnOk result (BeginsWithoutDigit (rest self.new)) }
         ensures above { IfOk result (λ n. negsuc max ≤ℤ n) }
         ensures below { IfOk result (λ n. n ≤ℤ pos max) }
         ensures refused { OnErr result ((n : ℤ) → negsuc max ≤ℤ n → n ≤ℤ pos max →

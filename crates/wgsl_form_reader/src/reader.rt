@@ -1,8 +1,10 @@
 //! What of a form is still to be read.
 
-ghost use Rattle.std.specs.Prelude.{◌≡◌, ◌≢◌, ◌≤◌, ◌<◌, ◌^◌, ◌++◌, ℕ, Bool, [], length, true, false, IfOk, MatchResult, OnErr, OnOk};
-ghost use Rattle.wgsl_tree_code.specs.Code.{absent, boolean, pair_of, natural};
-ghost use Rattle.wgsl_form_reader.specs.Reading.{rest, IsNoForm, IsNotNext, IsRead};
+ghost use Rattle.std.specs.Prelude.{◌≡◌, ◌≢◌, ◌≤◌, ◌<◌, ◌^◌, ◌++◌, ℕ, Bool, List, [], length, true, false, IfOk, MatchResult, OnErr, OnOk};
+ghost use Rattle.wgsl_tree_code.specs.Code.{Code, boolean, pair_of, natural};
+ghost use Rattle.wgsl_tree_code.specs.Form.{form};
+ghost use Rattle.wgsl_form_reader.specs.Reading.{rest, IsNotNext, IsRead};
+ghost use Rattle.wgsl_form_reader.specs.Texts.{HasPlainName, name_of};
 
 use crate::error::{FormError, FormErrorKind};
 use wgsl_span::Span;
@@ -40,10 +42,17 @@ impl<'t> Reader<'t> {
 
     /// Returns the name that is next, of a word as `"Void"` or of a variant as `{"If":`, else no
     /// text.
-    pub fn next_name(&self) -> &'t str {
-        let rest = self.rest.strip_prefix('{').unwrap_or(self.rest);
-        match rest.strip_prefix('"') {
-            Some(rest) => rest.split_once('"').map_or("", |(name, _)| name),
+    pub fn next_name(&self) -> &'t str
+        ensures { (c : Code) → HasPlainName c → (more : List ℕ) →
+            rest self.now ≡ form c ++ more → result.now ≡ name_of c }
+    {
+        let mut next = Reader {
+            rest: self.rest,
+            size: self.size,
+        };
+        next.eat("{");
+        match next.read_word() {
+            Some(name) => name,
             None => "",
         }
     }
@@ -90,7 +99,7 @@ impl<'t> Reader<'t> {
     /// Reads `true` or `false`.
     pub fn read_boolean(&mut self) -> Result<bool, FormError>
         ensures read { IfOk result (λ b. IsRead (boolean b) self.old self.new) }
-        ensures refused { OnErr result ((b : Bool) → IsNoForm (boolean b) self.old) }
+        ensures refused { OnErr result ((b : Bool) → IsNotNext (form (boolean b)) self.old) }
     {
         if self.eat("true") {
             return Ok(true);
@@ -107,7 +116,7 @@ impl<'t> Reader<'t> {
             self.old self.new) }
         ensures ordered { IfOk result (λ span. span.start ≤ span.end) }
         ensures refused { OnErr result ((start end : ℕ) → start < 2 ^ 64 → end < 2 ^ 64 → start ≤ end →
-            IsNoForm (pair_of (natural start) (natural end)) self.old) }
+            IsNotNext (form (pair_of (natural start) (natural end))) self.old) }
     {
         self.expect("[")?;
         let start = self.read_usize()?;

@@ -4,10 +4,10 @@ ghost use Rattle.std.specs.Prelude.{◌≡◌, ◌≢◌, ◌⊎◌, ◌+◌, �
 ghost use Rattle.std.specs.Fmt.{digit_glyph};
 ghost use Rattle.std.specs.List.{prefix_len};
 ghost use Rattle.wgsl_tree_code.specs.Code.{text};
-ghost use Rattle.wgsl_tree_code.specs.Form.{escaped, escaped_byte};
+ghost use Rattle.wgsl_tree_code.specs.Form.{escaped, escaped_byte, form};
 ghost use Rattle.wgsl_form_reader.specs.declared.error.FormErrorKind.TheVariants as kinds;
-ghost use Rattle.wgsl_form_reader.specs.Reading.{rest, IsNoForm, IsRead};
-ghost use Rattle.wgsl_form_reader.specs.Texts.{is_plain, BeginsWithoutPlain};
+ghost use Rattle.wgsl_form_reader.specs.Reading.{rest, IsNotNext, IsRead};
+ghost use Rattle.wgsl_form_reader.specs.Texts.{is_plain, AllPlain, BeginsWithoutPlain};
 
 use crate::error::{FormError, FormErrorKind};
 use crate::reader::Reader;
@@ -19,7 +19,7 @@ impl<'t> Reader<'t> {
     pub fn read_text(&mut self, alloc: Global) -> Result<String, FormError>
         ensures read { IfOk result (λ bytes. IsRead (text (string_bytes bytes)) self.old self.new) }
         ensures refused { IfErr result (λ error. (error.kind ≡ kinds.OutOfMemory) ⊎
-            ((bytes : List ℕ) → IsNoForm (text bytes) self.old)) }
+            ((bytes : List ℕ) → IsNotNext (form (text bytes)) self.old)) }
     {
         if !self.eat("\"") {
             return Err(self.error(FormErrorKind::Expected("a text")));
@@ -32,6 +32,22 @@ impl<'t> Reader<'t> {
             }
             text.push(self.read_escape()?)?;
         }
+    }
+
+    /// Reads a text whose characters are all written as they are, if one is next.
+    pub fn read_word(&mut self) -> Option<&'t str>
+        ensures { MatchOption result
+            ((word : List ℕ) → AllPlain word → IsNotNext (form (text word)) self.old)
+            (λ word. IsRead (text word.now) self.old self.new) }
+    {
+        if !self.eat("\"") {
+            return None;
+        }
+        let word = self.read_plain();
+        if !self.eat("\"") {
+            return None;
+        }
+        Some(word)
     }
 
     /// Reads all characters that are next and are written as they are.

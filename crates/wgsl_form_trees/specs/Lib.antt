@@ -1,1 +1,4 @@
+pub mod Held
 pub mod Openings
+pub mod Reading
+pub mod Simple

@@ -1,5 +1,5 @@
 -- What of an expression is before what is on its left side.
-use Rattle.std.specs.Prelude.{ℕ, List, [], ◌∷◌, ◌++◌, codes}
+use Rattle.std.specs.Prelude.{ℕ, ◌≡◌, List, [], ◌∷◌, ◌++◌, Option, None, Some, codes}
 use Rattle.grammar.specs.Tokens.{Span}
 use Rattle.wgsl_model.specs.Trees.Expressions.{ExpressionNode, Expression, named_component, indexing, binary}
 use Rattle.wgsl_span.specs.declared.Span as tree_span
@@ -9,6 +9,7 @@ use Rattle.wgsl_tree_code.specs.Code.{text, natural, pair_of}
 use Rattle.wgsl_tree_code.specs.Form.{form}
 use Rattle.wgsl_tree_code.specs.OperatorNodes.{binary_operator_code}
 use Rattle.wgsl_tree_code.specs.ExpressionNodes.{expression_node_code}
+use Rattle.wgsl_form_trees.specs.Held.{IsHeld}
 use Rattle.wgsl_tree_expression.specs.View.{ident_name, expression_node_view}
 use Rattle.wgsl_form_trees.specs.declared.opening.Opening.{Opening}
 use Rattle.wgsl_form_trees.specs.declared.opening.Opening.TheVariants.{Component, Index, Operation}
@@ -40,3 +41,22 @@ around (Component component) base = named_component base (ident_name component)
 around (Index index) base = indexing base (expression_node_view index)
 around (Operation operator right) left =
     binary (binary_operator_view operator) left (expression_node_view right)
+
+-- what is on the left side of an expression, if something is
+abbrev pub left_of : Expression → Option ExpressionNode
+left_of (named_component base component) = Some base
+left_of (indexing base index) = Some base
+left_of (binary operator left right) = Some left
+left_of e = None
+
+-- what is on the left side of an expression is next, and then its end and more
+pub record IsBeforeLeft (e : Expression) (more now : List ℕ) : Type 0 where
+  pub left : ExpressionNode
+  pub is : left_of e ≡ Some left
+  pub held : IsHeld (expression_node_code left)
+  pub next : now ≡ form (expression_node_code left) ++ (codes "}}" ++ more)
+
+-- the ends of the expressions around one
+abbrev pub ends : List (tree_span.Span × Opening) → List ℕ
+ends [] = []
+ends (o ∷ os) = codes "}}}" ++ ends os

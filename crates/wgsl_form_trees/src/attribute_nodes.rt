@@ -6,11 +6,11 @@ ghost use Rattle.wgsl_model.specs.Trees.Spanned.{Spanned};
 ghost use Rattle.wgsl_span.specs.View.{spanned_view};
 ghost use Rattle.wgsl_tree_attribute.specs.View.{attribute_view, custom_view, diagnostic_view, interpolate_view, type_constraint_view, workgroup_size_view};
 
-use crate::part::{read_field, read_held};
+use crate::part::{read_between, read_three, read_two};
+use crate::text::read_placed;
 use crate::traits::FromForm;
 use std::alloc::Global;
 use wgsl_form_reader::{FormError, FormErrorKind, Reader};
-use wgsl_span::Spanned;
 use wgsl_tree_attribute::{
     Attribute, AttributeNode, CustomAttribute, DiagnosticAttribute, InterpolateAttribute,
     TypeConstraint, WorkgroupSizeAttribute,
@@ -26,43 +26,43 @@ impl FromForm for Attribute {
     fn read_form(alloc: Global, reader: &mut Reader) -> Result<Self, FormError> {
         match reader.next_name() {
             "Align" => {
-                let inner = read_held(alloc, reader, "{\"Align\":")?;
+                let inner = read_between(alloc, reader, "{\"Align\":", "}")?;
                 Ok(Attribute::Align(inner))
             }
             "Binding" => {
-                let inner = read_held(alloc, reader, "{\"Binding\":")?;
+                let inner = read_between(alloc, reader, "{\"Binding\":", "}")?;
                 Ok(Attribute::Binding(inner))
             }
             "BlendSrc" => {
-                let inner = read_held(alloc, reader, "{\"BlendSrc\":")?;
+                let inner = read_between(alloc, reader, "{\"BlendSrc\":", "}")?;
                 Ok(Attribute::BlendSrc(inner))
             }
             "Group" => {
-                let inner = read_held(alloc, reader, "{\"Group\":")?;
+                let inner = read_between(alloc, reader, "{\"Group\":", "}")?;
                 Ok(Attribute::Group(inner))
             }
             "Id" => {
-                let inner = read_held(alloc, reader, "{\"Id\":")?;
+                let inner = read_between(alloc, reader, "{\"Id\":", "}")?;
                 Ok(Attribute::Id(inner))
             }
             "Location" => {
-                let inner = read_held(alloc, reader, "{\"Location\":")?;
+                let inner = read_between(alloc, reader, "{\"Location\":", "}")?;
                 Ok(Attribute::Location(inner))
             }
             "Size" => {
-                let inner = read_held(alloc, reader, "{\"Size\":")?;
+                let inner = read_between(alloc, reader, "{\"Size\":", "}")?;
                 Ok(Attribute::Size(inner))
             }
             "If" => {
-                let inner = read_held(alloc, reader, "{\"If\":")?;
+                let inner = read_between(alloc, reader, "{\"If\":", "}")?;
                 Ok(Attribute::If(inner))
             }
             "Elif" => {
-                let inner = read_held(alloc, reader, "{\"Elif\":")?;
+                let inner = read_between(alloc, reader, "{\"Elif\":", "}")?;
                 Ok(Attribute::Elif(inner))
             }
             "Builtin" => {
-                let inner = read_held(alloc, reader, "{\"Builtin\":")?;
+                let inner = read_between(alloc, reader, "{\"Builtin\":", "}")?;
                 Ok(Attribute::Builtin(inner))
             }
             "Const" => {
@@ -94,23 +94,23 @@ impl FromForm for Attribute {
                 Ok(Attribute::Else)
             }
             "Diagnostic" => {
-                let inner = read_held(alloc, reader, "{\"Diagnostic\":")?;
+                let inner = read_between(alloc, reader, "{\"Diagnostic\":", "}")?;
                 Ok(Attribute::Diagnostic(inner))
             }
             "Interpolate" => {
-                let inner = read_held(alloc, reader, "{\"Interpolate\":")?;
+                let inner = read_between(alloc, reader, "{\"Interpolate\":", "}")?;
                 Ok(Attribute::Interpolate(inner))
             }
             "WorkgroupSize" => {
-                let inner = read_held(alloc, reader, "{\"WorkgroupSize\":")?;
+                let inner = read_between(alloc, reader, "{\"WorkgroupSize\":", "}")?;
                 Ok(Attribute::WorkgroupSize(inner))
             }
             "TypeConstraint" => {
-                let inner = read_held(alloc, reader, "{\"TypeConstraint\":")?;
+                let inner = read_between(alloc, reader, "{\"TypeConstraint\":", "}")?;
                 Ok(Attribute::TypeConstraint(inner))
             }
             "Custom" => {
-                let inner = read_held(alloc, reader, "{\"Custom\":")?;
+                let inner = read_between(alloc, reader, "{\"Custom\":", "}")?;
                 Ok(Attribute::Custom(inner))
             }
             _ => Err(reader.error(FormErrorKind::Expected("a `Attribute`"))),
@@ -126,12 +126,7 @@ impl FromForm for AttributeNode {
     ghost code = { attribute_node_code };
 
     fn read_form(alloc: Global, reader: &mut Reader) -> Result<Self, FormError> {
-        reader.expect("{\"span\":")?;
-        let span = reader.read_span()?;
-        reader.expect(",\"node\":")?;
-        let node = Attribute::read_form(alloc, reader)?;
-        reader.expect("}")?;
-        Ok(Spanned::new(alloc, node, span)?)
+        read_placed(alloc, reader)
     }
 }
 
@@ -143,9 +138,7 @@ impl FromForm for DiagnosticAttribute {
     ghost code = { diagnostic_code };
 
     fn read_form(alloc: Global, reader: &mut Reader) -> Result<Self, FormError> {
-        let severity = read_field(alloc, reader, "{\"severity\":")?;
-        let rule = read_field(alloc, reader, ",\"rule\":")?;
-        reader.expect("}")?;
+        let (severity, rule) = read_two(alloc, reader, "{\"severity\":", ",\"rule\":")?;
         Ok(DiagnosticAttribute { severity, rule })
     }
 }
@@ -158,9 +151,7 @@ impl FromForm for InterpolateAttribute {
     ghost code = { interpolate_code };
 
     fn read_form(alloc: Global, reader: &mut Reader) -> Result<Self, FormError> {
-        let ty = read_field(alloc, reader, "{\"ty\":")?;
-        let sampling = read_field(alloc, reader, ",\"sampling\":")?;
-        reader.expect("}")?;
+        let (ty, sampling) = read_two(alloc, reader, "{\"ty\":", ",\"sampling\":")?;
         Ok(InterpolateAttribute { ty, sampling })
     }
 }
@@ -173,10 +164,7 @@ impl FromForm for WorkgroupSizeAttribute {
     ghost code = { workgroup_size_code };
 
     fn read_form(alloc: Global, reader: &mut Reader) -> Result<Self, FormError> {
-        let x = read_field(alloc, reader, "{\"x\":")?;
-        let y = read_field(alloc, reader, ",\"y\":")?;
-        let z = read_field(alloc, reader, ",\"z\":")?;
-        reader.expect("}")?;
+        let (x, y, z) = read_three(alloc, reader, "{\"x\":", ",\"y\":", ",\"z\":")?;
         Ok(WorkgroupSizeAttribute { x, y, z })
     }
 }
@@ -189,9 +177,7 @@ impl FromForm for TypeConstraint {
     ghost code = { type_constraint_code };
 
     fn read_form(alloc: Global, reader: &mut Reader) -> Result<Self, FormError> {
-        let ident = read_field(alloc, reader, "{\"ident\":")?;
-        let variants = read_field(alloc, reader, ",\"variants\":")?;
-        reader.expect("}")?;
+        let (ident, variants) = read_two(alloc, reader, "{\"ident\":", ",\"variants\":")?;
         Ok(TypeConstraint { ident, variants })
     }
 }
@@ -204,9 +190,7 @@ impl FromForm for CustomAttribute {
     ghost code = { custom_code };
 
     fn read_form(alloc: Global, reader: &mut Reader) -> Result<Self, FormError> {
-        let name = read_field(alloc, reader, "{\"name\":")?;
-        let arguments = read_field(alloc, reader, ",\"arguments\":")?;
-        reader.expect("}")?;
+        let (name, arguments) = read_two(alloc, reader, "{\"name\":", ",\"arguments\":")?;
         Ok(CustomAttribute { name, arguments })
     }
 }

@@ -5,7 +5,8 @@ ghost use Rattle.wgsl_model.specs.Trees.Expressions as plain;
 ghost use Rattle.wgsl_tree_code.specs.ExpressionNodes.{call_code, expression_code, expression_node_code, type_code};
 ghost use Rattle.wgsl_tree_code.specs.Form.{form};
 ghost use Rattle.wgsl_form_reader.specs.Reading.{IsRead, rest};
-ghost use Rattle.wgsl_form_trees.specs.Openings.{openings};
+ghost use Rattle.wgsl_form_trees.specs.Openings.{ends, openings};
+ghost use Rattle.wgsl_form_trees.specs.Reading.{IsReadWhereNext, IsTakenWhereNext};
 ghost use Rattle.wgsl_tree_expression.specs.View.{expression_node_view, expression_view, function_call_view, type_expression_view};
 
 use crate::expression::{read_alone, read_function_call, read_opening, read_type_expression};
@@ -67,8 +68,10 @@ impl FromForm for Expression {
 
 /// Reads an expression without a span.
 pub fn read_expression(alloc: Global, reader: &mut Reader) -> Result<Expression, FormError>
-    ensures { IfOk result (λ expression. IsRead (expression_code (expression_view expression))
+    ensures read { IfOk result (λ expression. IsRead (expression_code (expression_view expression))
         reader.old reader.new) }
+    ensures taken { (e : plain.Expression) →
+        IsTakenWhereNext (expression_code e) result reader.old reader.new }
 {
     let Some(opening) = read_opening(alloc, reader)? else {
         return read_alone(alloc, reader);
@@ -82,8 +85,10 @@ pub fn read_expression(alloc: Global, reader: &mut Reader) -> Result<Expression,
 /// a loop reads it.
 #[cycle(expressions)]
 pub fn read_expression_node(alloc: Global, reader: &mut Reader) -> Result<ExpressionNode, FormError>
-    ensures { IfOk result (λ node. IsRead (expression_node_code (expression_node_view node))
+    ensures read { IfOk result (λ node. IsRead (expression_node_code (expression_node_view node))
         reader.old reader.new) }
+    ensures taken { (node : plain.ExpressionNode) →
+        IsTakenWhereNext (expression_node_code node) result reader.old reader.new }
 {
     let mut above = Vec::new(alloc);
     let mut span = read_place(reader)?;
@@ -103,9 +108,10 @@ fn read_ends(
     above: Vec<(Span, Opening)>,
     innermost: ExpressionNode,
 ) -> Result<ExpressionNode, FormError>
-    ensures { IfOk result (λ node. openings above.items
+    ensures read { IfOk result (λ node. openings above.items
         ++ form (expression_node_code (expression_node_view innermost)) ++ rest reader.old
         ≡ form (expression_node_code (expression_node_view node)) ++ rest reader.new) }
+    ensures taken { IsReadWhereNext (ends above.items) result reader.old reader.new }
 {
     let mut above = above;
     let mut node = innermost;

@@ -8,7 +8,7 @@ ghost use Rattle.wgsl_tree_code.specs.Code.{attributed_code};
 ghost use Rattle.wgsl_tree_attribute.specs.View.{attributes_view};
 ghost use Rattle.wgsl_tree_simple.specs.View.{assert_view, assignment_view, break_if_view, call_statement_view, declaration_kind_view, declaration_view, decrement_view, increment_view, return_view, selector_view};
 
-use crate::part::{read_field, read_held};
+use crate::part::{read_between, read_five, read_four, read_two};
 use crate::traits::FromForm;
 use std::alloc::Global;
 use wgsl_form_reader::{FormError, FormErrorKind, Reader};
@@ -26,12 +26,15 @@ impl FromForm for Declaration {
     ghost code = { attributed_code declaration_code };
 
     fn read_form(alloc: Global, reader: &mut Reader) -> Result<Self, FormError> {
-        let attributes = read_field(alloc, reader, "{\"attributes\":")?;
-        let kind = read_field(alloc, reader, ",\"kind\":")?;
-        let ident = read_field(alloc, reader, ",\"ident\":")?;
-        let ty = read_field(alloc, reader, ",\"ty\":")?;
-        let initializer = read_field(alloc, reader, ",\"initializer\":")?;
-        reader.expect("}")?;
+        let (attributes, kind, ident, ty, initializer) = read_five(
+            alloc,
+            reader,
+            "{\"attributes\":",
+            ",\"kind\":",
+            ",\"ident\":",
+            ",\"ty\":",
+            ",\"initializer\":",
+        )?;
         Ok(Declaration {
             attributes,
             kind,
@@ -64,7 +67,7 @@ impl FromForm for DeclarationKind {
                 Ok(DeclarationKind::Let)
             }
             "Var" => {
-                let inner = read_held(alloc, reader, "{\"Var\":")?;
+                let inner = read_between(alloc, reader, "{\"Var\":", "}")?;
                 Ok(DeclarationKind::Var(inner))
             }
             _ => Err(reader.error(FormErrorKind::Expected("a `DeclarationKind`"))),
@@ -80,11 +83,14 @@ impl FromForm for AssignmentStatement {
     ghost code = { attributed_code assignment_code };
 
     fn read_form(alloc: Global, reader: &mut Reader) -> Result<Self, FormError> {
-        let attributes = read_field(alloc, reader, "{\"attributes\":")?;
-        let operator = read_field(alloc, reader, ",\"operator\":")?;
-        let lhs = read_field(alloc, reader, ",\"lhs\":")?;
-        let rhs = read_field(alloc, reader, ",\"rhs\":")?;
-        reader.expect("}")?;
+        let (attributes, operator, lhs, rhs) = read_four(
+            alloc,
+            reader,
+            "{\"attributes\":",
+            ",\"operator\":",
+            ",\"lhs\":",
+            ",\"rhs\":",
+        )?;
         Ok(AssignmentStatement {
             attributes,
             operator,
@@ -102,9 +108,12 @@ impl FromForm for IncrementStatement {
     ghost code = { attributed_code increment_code };
 
     fn read_form(alloc: Global, reader: &mut Reader) -> Result<Self, FormError> {
-        let attributes = read_field(alloc, reader, "{\"attributes\":")?;
-        let expression = read_field(alloc, reader, ",\"expression\":")?;
-        reader.expect("}")?;
+        let (attributes, expression) = read_two(
+            alloc,
+            reader,
+            "{\"attributes\":",
+            ",\"expression\":",
+        )?;
         Ok(IncrementStatement {
             attributes,
             expression,
@@ -120,9 +129,12 @@ impl FromForm for DecrementStatement {
     ghost code = { attributed_code decrement_code };
 
     fn read_form(alloc: Global, reader: &mut Reader) -> Result<Self, FormError> {
-        let attributes = read_field(alloc, reader, "{\"attributes\":")?;
-        let expression = read_field(alloc, reader, ",\"expression\":")?;
-        reader.expect("}")?;
+        let (attributes, expression) = read_two(
+            alloc,
+            reader,
+            "{\"attributes\":",
+            ",\"expression\":",
+        )?;
         Ok(DecrementStatement {
             attributes,
             expression,
@@ -144,7 +156,7 @@ impl FromForm for CaseSelector {
                 Ok(CaseSelector::Default)
             }
             "Expression" => {
-                let inner = read_held(alloc, reader, "{\"Expression\":")?;
+                let inner = read_between(alloc, reader, "{\"Expression\":", "}")?;
                 Ok(CaseSelector::Expression(inner))
             }
             _ => Err(reader.error(FormErrorKind::Expected("a `CaseSelector`"))),
@@ -160,8 +172,7 @@ impl FromForm for BreakStatement {
     ghost code = { break_code };
 
     fn read_form(alloc: Global, reader: &mut Reader) -> Result<Self, FormError> {
-        let attributes = read_field(alloc, reader, "{\"attributes\":")?;
-        reader.expect("}")?;
+        let attributes = read_between(alloc, reader, "{\"attributes\":", "}")?;
         Ok(BreakStatement { attributes })
     }
 }
@@ -174,9 +185,12 @@ impl FromForm for BreakIfStatement {
     ghost code = { attributed_code break_if_code };
 
     fn read_form(alloc: Global, reader: &mut Reader) -> Result<Self, FormError> {
-        let attributes = read_field(alloc, reader, "{\"attributes\":")?;
-        let expression = read_field(alloc, reader, ",\"expression\":")?;
-        reader.expect("}")?;
+        let (attributes, expression) = read_two(
+            alloc,
+            reader,
+            "{\"attributes\":",
+            ",\"expression\":",
+        )?;
         Ok(BreakIfStatement {
             attributes,
             expression,
@@ -192,8 +206,7 @@ impl FromForm for ContinueStatement {
     ghost code = { continue_code };
 
     fn read_form(alloc: Global, reader: &mut Reader) -> Result<Self, FormError> {
-        let attributes = read_field(alloc, reader, "{\"attributes\":")?;
-        reader.expect("}")?;
+        let attributes = read_between(alloc, reader, "{\"attributes\":", "}")?;
         Ok(ContinueStatement { attributes })
     }
 }
@@ -206,9 +219,12 @@ impl FromForm for ReturnStatement {
     ghost code = { attributed_code return_code };
 
     fn read_form(alloc: Global, reader: &mut Reader) -> Result<Self, FormError> {
-        let attributes = read_field(alloc, reader, "{\"attributes\":")?;
-        let expression = read_field(alloc, reader, ",\"expression\":")?;
-        reader.expect("}")?;
+        let (attributes, expression) = read_two(
+            alloc,
+            reader,
+            "{\"attributes\":",
+            ",\"expression\":",
+        )?;
         Ok(ReturnStatement {
             attributes,
             expression,
@@ -224,8 +240,7 @@ impl FromForm for DiscardStatement {
     ghost code = { discard_code };
 
     fn read_form(alloc: Global, reader: &mut Reader) -> Result<Self, FormError> {
-        let attributes = read_field(alloc, reader, "{\"attributes\":")?;
-        reader.expect("}")?;
+        let attributes = read_between(alloc, reader, "{\"attributes\":", "}")?;
         Ok(DiscardStatement { attributes })
     }
 }
@@ -238,9 +253,7 @@ impl FromForm for FunctionCallStatement {
     ghost code = { attributed_code call_statement_code };
 
     fn read_form(alloc: Global, reader: &mut Reader) -> Result<Self, FormError> {
-        let attributes = read_field(alloc, reader, "{\"attributes\":")?;
-        let call = read_field(alloc, reader, ",\"call\":")?;
-        reader.expect("}")?;
+        let (attributes, call) = read_two(alloc, reader, "{\"attributes\":", ",\"call\":")?;
         Ok(FunctionCallStatement { attributes, call })
     }
 }
@@ -253,9 +266,12 @@ impl FromForm for ConstAssert {
     ghost code = { attributed_code assert_code };
 
     fn read_form(alloc: Global, reader: &mut Reader) -> Result<Self, FormError> {
-        let attributes = read_field(alloc, reader, "{\"attributes\":")?;
-        let expression = read_field(alloc, reader, ",\"expression\":")?;
-        reader.expect("}")?;
+        let (attributes, expression) = read_two(
+            alloc,
+            reader,
+            "{\"attributes\":",
+            ",\"expression\":",
+        )?;
         Ok(ConstAssert {
             attributes,
             expression,

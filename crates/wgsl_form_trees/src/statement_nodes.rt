@@ -8,8 +8,12 @@ ghost use Rattle.wgsl_tree_code.specs.Code.{attributed_code, list};
 ghost use Rattle.wgsl_tree_code.specs.StatementNodes.{clauses_code, compound_code, continuing_code, else_clause_code, else_code, else_if_clause_code, else_ifs_code, for_code, if_clause_code, if_code, loop_code, maybe_continuing_code, part_code, statement_code, statement_node_code, statements_code, switch_clause_code, switch_code, while_code};
 ghost use Rattle.wgsl_tree_statement.specs.View.{compound_statement_view, continuing_statement_view, else_clause_view, else_if_clause_view, for_statement_view, if_clause_view, if_statement_view, loop_statement_view, statement_node_view, statement_nodes_view, statement_view, switch_clause_view, switch_statement_view, while_statement_view};
 ghost use Rattle.wgsl_form_reader.specs.Reading.{IsRead};
+ghost use Rattle.wgsl_model.specs.Trees.Attributed.{Attributed};
+ghost use Rattle.wgsl_form_trees.specs.Reading.{IsTakenWhereNext};
+ghost use Rattle.wgsl_form_trees.specs.Simple.{IsSimple};
 
-use crate::part::{read_field, read_held};
+use crate::part::{read_between, read_field};
+use crate::text::read_place;
 use crate::traits::FromForm;
 use std::alloc::Global;
 use wgsl_form_reader::{FormError, FormErrorKind, Reader};
@@ -105,9 +109,10 @@ impl FromForm for ContinuingStatement {
 }
 
 fn read_simple_statement(alloc: Global, reader: &mut Reader) -> Result<Statement, FormError>
-    ensures { IfOk result (λ node. IsRead
+    ensures read { IfOk result (λ node. IsRead
         (statement_code (statement_view node))
         reader.old reader.new) }
+    ensures taken { (value : plain.Statement) → IsSimple value → IsTakenWhereNext (statement_code value) result reader.old reader.new }
 {
     match reader.next_name() {
         "Void" => {
@@ -115,43 +120,43 @@ fn read_simple_statement(alloc: Global, reader: &mut Reader) -> Result<Statement
             Ok(Statement::Void)
         }
         "Assignment" => {
-            let inner = read_held(alloc, reader, "{\"Assignment\":")?;
+            let inner = read_between(alloc, reader, "{\"Assignment\":", "}")?;
             Ok(Statement::Assignment(inner))
         }
         "Increment" => {
-            let inner = read_held(alloc, reader, "{\"Increment\":")?;
+            let inner = read_between(alloc, reader, "{\"Increment\":", "}")?;
             Ok(Statement::Increment(inner))
         }
         "Decrement" => {
-            let inner = read_held(alloc, reader, "{\"Decrement\":")?;
+            let inner = read_between(alloc, reader, "{\"Decrement\":", "}")?;
             Ok(Statement::Decrement(inner))
         }
         "Break" => {
-            let inner = read_held(alloc, reader, "{\"Break\":")?;
+            let inner = read_between(alloc, reader, "{\"Break\":", "}")?;
             Ok(Statement::Break(inner))
         }
         "Continue" => {
-            let inner = read_held(alloc, reader, "{\"Continue\":")?;
+            let inner = read_between(alloc, reader, "{\"Continue\":", "}")?;
             Ok(Statement::Continue(inner))
         }
         "Return" => {
-            let inner = read_held(alloc, reader, "{\"Return\":")?;
+            let inner = read_between(alloc, reader, "{\"Return\":", "}")?;
             Ok(Statement::Return(inner))
         }
         "Discard" => {
-            let inner = read_held(alloc, reader, "{\"Discard\":")?;
+            let inner = read_between(alloc, reader, "{\"Discard\":", "}")?;
             Ok(Statement::Discard(inner))
         }
         "FunctionCall" => {
-            let inner = read_held(alloc, reader, "{\"FunctionCall\":")?;
+            let inner = read_between(alloc, reader, "{\"FunctionCall\":", "}")?;
             Ok(Statement::FunctionCall(inner))
         }
         "ConstAssert" => {
-            let inner = read_held(alloc, reader, "{\"ConstAssert\":")?;
+            let inner = read_between(alloc, reader, "{\"ConstAssert\":", "}")?;
             Ok(Statement::ConstAssert(inner))
         }
         "Declaration" => {
-            let inner = read_held(alloc, reader, "{\"Declaration\":")?;
+            let inner = read_between(alloc, reader, "{\"Declaration\":", "}")?;
             Ok(Statement::Declaration(inner))
         }
         _ => Err(reader.error(FormErrorKind::Expected("a statement"))),
@@ -160,9 +165,10 @@ fn read_simple_statement(alloc: Global, reader: &mut Reader) -> Result<Statement
 
 #[cycle(statements)]
 fn read_statement(alloc: Global, reader: &mut Reader) -> Result<Statement, FormError>
-    ensures { IfOk result (λ node. IsRead
+    ensures read { IfOk result (λ node. IsRead
         (statement_code (statement_view node))
         reader.old reader.new) }
+    ensures taken { (value : plain.Statement) → IsTakenWhereNext (statement_code value) result reader.old reader.new }
 {
     match reader.next_name() {
         "Compound" => {
@@ -207,13 +213,12 @@ fn read_statement(alloc: Global, reader: &mut Reader) -> Result<Statement, FormE
 
 #[cycle(statements)]
 fn read_statement_node(alloc: Global, reader: &mut Reader) -> Result<StatementNode, FormError>
-    ensures { IfOk result (λ node. IsRead
+    ensures read { IfOk result (λ node. IsRead
         (statement_node_code (statement_node_view node))
         reader.old reader.new) }
+    ensures taken { (value : plain.StatementNode) → IsTakenWhereNext (statement_node_code value) result reader.old reader.new }
 {
-    reader.expect("{\"span\":")?;
-    let span = reader.read_span()?;
-    reader.expect(",\"node\":")?;
+    let span = read_place(reader)?;
     let node = read_statement(alloc, reader)?;
     reader.expect("}")?;
     Ok(Spanned::new(alloc, node, span)?)
@@ -224,9 +229,10 @@ fn read_compound_statement(
     alloc: Global,
     reader: &mut Reader,
 ) -> Result<CompoundStatement, FormError>
-    ensures { IfOk result (λ node. IsRead
+    ensures read { IfOk result (λ node. IsRead
         (compound_code (compound_statement_view node))
         reader.old reader.new) }
+    ensures taken { (value : plain.CompoundStatement) → IsTakenWhereNext (compound_code value) result reader.old reader.new }
 {
     let attributes = read_field(alloc, reader, "{\"attributes\":")?;
     reader.expect(",\"statements\":")?;
@@ -240,9 +246,10 @@ fn read_compound_statement(
 
 #[cycle(statements)]
 fn read_if_statement(alloc: Global, reader: &mut Reader) -> Result<IfStatement, FormError>
-    ensures { IfOk result (λ node. IsRead
+    ensures read { IfOk result (λ node. IsRead
         (attributed_code if_code (if_statement_view node))
         reader.old reader.new) }
+    ensures taken { (value : Attributed plain.IfStatement) → IsTakenWhereNext (attributed_code if_code value) result reader.old reader.new }
 {
     let attributes = read_field(alloc, reader, "{\"attributes\":")?;
     reader.expect(",\"if_clause\":")?;
@@ -262,9 +269,10 @@ fn read_if_statement(alloc: Global, reader: &mut Reader) -> Result<IfStatement, 
 
 #[cycle(statements)]
 fn read_if_clause(alloc: Global, reader: &mut Reader) -> Result<IfClause, FormError>
-    ensures { IfOk result (λ node. IsRead
+    ensures read { IfOk result (λ node. IsRead
         (if_clause_code (if_clause_view node))
         reader.old reader.new) }
+    ensures taken { (value : plain.IfClause) → IsTakenWhereNext (if_clause_code value) result reader.old reader.new }
 {
     let expression = read_field(alloc, reader, "{\"expression\":")?;
     reader.expect(",\"body\":")?;
@@ -275,9 +283,10 @@ fn read_if_clause(alloc: Global, reader: &mut Reader) -> Result<IfClause, FormEr
 
 #[cycle(statements)]
 fn read_else_if_clause(alloc: Global, reader: &mut Reader) -> Result<ElseIfClause, FormError>
-    ensures { IfOk result (λ node. IsRead
+    ensures read { IfOk result (λ node. IsRead
         (else_if_clause_code (else_if_clause_view node))
         reader.old reader.new) }
+    ensures taken { (value : plain.ElseIfClause) → IsTakenWhereNext (else_if_clause_code value) result reader.old reader.new }
 {
     let attributes = read_field(alloc, reader, "{\"attributes\":")?;
     let expression = read_field(alloc, reader, ",\"expression\":")?;
@@ -293,9 +302,10 @@ fn read_else_if_clause(alloc: Global, reader: &mut Reader) -> Result<ElseIfClaus
 
 #[cycle(statements)]
 fn read_else_clause(alloc: Global, reader: &mut Reader) -> Result<ElseClause, FormError>
-    ensures { IfOk result (λ node. IsRead
+    ensures read { IfOk result (λ node. IsRead
         (else_clause_code (else_clause_view node))
         reader.old reader.new) }
+    ensures taken { (value : plain.ElseClause) → IsTakenWhereNext (else_clause_code value) result reader.old reader.new }
 {
     let attributes = read_field(alloc, reader, "{\"attributes\":")?;
     reader.expect(",\"body\":")?;
@@ -306,9 +316,10 @@ fn read_else_clause(alloc: Global, reader: &mut Reader) -> Result<ElseClause, Fo
 
 #[cycle(statements)]
 fn read_switch_statement(alloc: Global, reader: &mut Reader) -> Result<SwitchStatement, FormError>
-    ensures { IfOk result (λ node. IsRead
+    ensures read { IfOk result (λ node. IsRead
         (attributed_code switch_code (switch_statement_view node))
         reader.old reader.new) }
+    ensures taken { (value : Attributed plain.SwitchStatement) → IsTakenWhereNext (attributed_code switch_code value) result reader.old reader.new }
 {
     let attributes = read_field(alloc, reader, "{\"attributes\":")?;
     let expression = read_field(alloc, reader, ",\"expression\":")?;
@@ -326,9 +337,10 @@ fn read_switch_statement(alloc: Global, reader: &mut Reader) -> Result<SwitchSta
 
 #[cycle(statements)]
 fn read_switch_clause(alloc: Global, reader: &mut Reader) -> Result<SwitchClause, FormError>
-    ensures { IfOk result (λ node. IsRead
+    ensures read { IfOk result (λ node. IsRead
         (switch_clause_code (switch_clause_view node))
         reader.old reader.new) }
+    ensures taken { (value : plain.SwitchClause) → IsTakenWhereNext (switch_clause_code value) result reader.old reader.new }
 {
     let attributes = read_field(alloc, reader, "{\"attributes\":")?;
     let case_selectors = read_field(alloc, reader, ",\"case_selectors\":")?;
@@ -344,9 +356,10 @@ fn read_switch_clause(alloc: Global, reader: &mut Reader) -> Result<SwitchClause
 
 #[cycle(statements)]
 fn read_loop_statement(alloc: Global, reader: &mut Reader) -> Result<LoopStatement, FormError>
-    ensures { IfOk result (λ node. IsRead
+    ensures read { IfOk result (λ node. IsRead
         (attributed_code loop_code (loop_statement_view node))
         reader.old reader.new) }
+    ensures taken { (value : Attributed plain.LoopStatement) → IsTakenWhereNext (attributed_code loop_code value) result reader.old reader.new }
 {
     let attributes = read_field(alloc, reader, "{\"attributes\":")?;
     reader.expect(",\"body\":")?;
@@ -363,9 +376,10 @@ fn read_loop_statement(alloc: Global, reader: &mut Reader) -> Result<LoopStateme
 
 #[cycle(statements)]
 fn read_for_statement(alloc: Global, reader: &mut Reader) -> Result<ForStatement, FormError>
-    ensures { IfOk result (λ node. IsRead
+    ensures read { IfOk result (λ node. IsRead
         (attributed_code for_code (for_statement_view node))
         reader.old reader.new) }
+    ensures taken { (value : Attributed plain.ForStatement) → IsTakenWhereNext (attributed_code for_code value) result reader.old reader.new }
 {
     let attributes = read_field(alloc, reader, "{\"attributes\":")?;
     reader.expect(",\"initializer\":")?;
@@ -387,9 +401,10 @@ fn read_for_statement(alloc: Global, reader: &mut Reader) -> Result<ForStatement
 
 #[cycle(statements)]
 fn read_while_statement(alloc: Global, reader: &mut Reader) -> Result<WhileStatement, FormError>
-    ensures { IfOk result (λ node. IsRead
+    ensures read { IfOk result (λ node. IsRead
         (attributed_code while_code (while_statement_view node))
         reader.old reader.new) }
+    ensures taken { (value : Attributed plain.WhileStatement) → IsTakenWhereNext (attributed_code while_code value) result reader.old reader.new }
 {
     let attributes = read_field(alloc, reader, "{\"attributes\":")?;
     let condition = read_field(alloc, reader, ",\"condition\":")?;
@@ -408,9 +423,10 @@ fn read_continuing_statement(
     alloc: Global,
     reader: &mut Reader,
 ) -> Result<ContinuingStatement, FormError>
-    ensures { IfOk result (λ node. IsRead
+    ensures read { IfOk result (λ node. IsRead
         (continuing_code (continuing_statement_view node))
         reader.old reader.new) }
+    ensures taken { (value : plain.ContinuingStatement) → IsTakenWhereNext (continuing_code value) result reader.old reader.new }
 {
     let attributes = read_field(alloc, reader, "{\"attributes\":")?;
     reader.expect(",\"body\":")?;
@@ -426,59 +442,65 @@ fn read_continuing_statement(
 
 #[cycle(statements)]
 fn read_statement_nodes(alloc: Global, reader: &mut Reader) -> Result<Vec<StatementNode>, FormError>
-    ensures { IfOk result (λ nodes. IsRead
+    ensures read { IfOk result (λ nodes. IsRead
         (list (statements_code (statement_nodes_view nodes.items)))
         reader.old reader.new) }
+    ensures taken { (value : plain.StatementNodes) → IsTakenWhereNext (list (statements_code value)) result reader.old reader.new }
 {
     reader.expect("[")?;
     let mut nodes = Vec::new(alloc);
     if reader.eat("]") {
         return Ok(nodes);
     }
-    nodes.push(read_statement_node(alloc, reader)?)?;
-    'nodes: while reader.eat(",") {
+    'nodes: loop {
         nodes.push(read_statement_node(alloc, reader)?)?;
+        if reader.eat("]") {
+            return Ok(nodes);
+        }
+        reader.expect(",")?;
     }
-    reader.expect("]")?;
-    Ok(nodes)
 }
 
 #[cycle(statements)]
 fn read_else_if_clauses(alloc: Global, reader: &mut Reader) -> Result<Vec<ElseIfClause>, FormError>
-    ensures { IfOk result (λ nodes. IsRead
+    ensures read { IfOk result (λ nodes. IsRead
         (list (else_ifs_code (else_ifs_of (map else_if_clause_view nodes.items))))
         reader.old reader.new) }
+    ensures taken { (value : plain.ElseIfClauses) → IsTakenWhereNext (list (else_ifs_code value)) result reader.old reader.new }
 {
     reader.expect("[")?;
     let mut nodes = Vec::new(alloc);
     if reader.eat("]") {
         return Ok(nodes);
     }
-    nodes.push(read_else_if_clause(alloc, reader)?)?;
-    'nodes: while reader.eat(",") {
+    'nodes: loop {
         nodes.push(read_else_if_clause(alloc, reader)?)?;
+        if reader.eat("]") {
+            return Ok(nodes);
+        }
+        reader.expect(",")?;
     }
-    reader.expect("]")?;
-    Ok(nodes)
 }
 
 #[cycle(statements)]
 fn read_switch_clauses(alloc: Global, reader: &mut Reader) -> Result<Vec<SwitchClause>, FormError>
-    ensures { IfOk result (λ nodes. IsRead
+    ensures read { IfOk result (λ nodes. IsRead
         (list (clauses_code (clauses_of (map switch_clause_view nodes.items))))
         reader.old reader.new) }
+    ensures taken { (value : plain.SwitchClauses) → IsTakenWhereNext (list (clauses_code value)) result reader.old reader.new }
 {
     reader.expect("[")?;
     let mut nodes = Vec::new(alloc);
     if reader.eat("]") {
         return Ok(nodes);
     }
-    nodes.push(read_switch_clause(alloc, reader)?)?;
-    'nodes: while reader.eat(",") {
+    'nodes: loop {
         nodes.push(read_switch_clause(alloc, reader)?)?;
+        if reader.eat("]") {
+            return Ok(nodes);
+        }
+        reader.expect(",")?;
     }
-    reader.expect("]")?;
-    Ok(nodes)
 }
 
 #[cycle(statements)]
@@ -486,9 +508,10 @@ fn read_optional_statement_node(
     alloc: Global,
     reader: &mut Reader,
 ) -> Result<Option<StatementNode>, FormError>
-    ensures { IfOk result (λ part. IsRead
+    ensures read { IfOk result (λ part. IsRead
         (part_code (maybe_statement (option_map statement_node_view part)))
         reader.old reader.new) }
+    ensures taken { (value : plain.MaybeStatement) → IsTakenWhereNext (part_code value) result reader.old reader.new }
 {
     if reader.eat("null") {
         return Ok(None);
@@ -501,9 +524,10 @@ fn read_optional_else_clause(
     alloc: Global,
     reader: &mut Reader,
 ) -> Result<Option<ElseClause>, FormError>
-    ensures { IfOk result (λ part. IsRead
+    ensures read { IfOk result (λ part. IsRead
         (else_code (else_of (option_map else_clause_view part)))
         reader.old reader.new) }
+    ensures taken { (value : plain.MaybeElseClause) → IsTakenWhereNext (else_code value) result reader.old reader.new }
 {
     if reader.eat("null") {
         return Ok(None);
@@ -516,9 +540,10 @@ fn read_optional_continuing_statement(
     alloc: Global,
     reader: &mut Reader,
 ) -> Result<Option<ContinuingStatement>, FormError>
-    ensures { IfOk result (λ part. IsRead
+    ensures read { IfOk result (λ part. IsRead
         (maybe_continuing_code (continuing_of (option_map continuing_statement_view part)))
         reader.old reader.new) }
+    ensures taken { (value : plain.MaybeContinuing) → IsTakenWhereNext (maybe_continuing_code value) result reader.old reader.new }
 {
     if reader.eat("null") {
         return Ok(None);

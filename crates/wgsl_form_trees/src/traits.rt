@@ -1,11 +1,15 @@
 //! What is read from a text form.
 
-ghost use Rattle.std.specs.Prelude.{◌≡◌, IfOk, List, Option, map, string_bytes, ℕ};
+ghost use Rattle.std.specs.Prelude.{◌≡◌, IfErr, IfOk, List, Option, map, string_bytes, ℕ};
 ghost use Rattle.std.specs.Option.{option_map};
 ghost use Rattle.wgsl_tree_code.specs.Code.{Code, list_of, optional, pair_of, text};
 ghost use Rattle.wgsl_tree_code.specs.Form.{form};
 ghost use Rattle.wgsl_form_reader.specs.Reading.{IsRead};
+ghost use Rattle.wgsl_form_reader.specs.declared.error.FormErrorKind.TheVariants as kinds;
+ghost use Rattle.wgsl_form_trees.specs.Held.{IsHeld};
+ghost use Rattle.wgsl_form_trees.specs.Reading.{IsTakenWhereNext};
 
+use crate::part::{read_between, read_field};
 use std::alloc::Global;
 use wgsl_form_reader::{FormError, FormErrorKind, Reader};
 
@@ -19,12 +23,16 @@ pub trait FromForm: Sized {
 
     /// Reads the text form.
     fn read_form(alloc: Global, reader: &mut Reader) -> Result<Self, FormError>
-        ensures { IfOk result (λ value. IsRead (code (view value)) reader.old reader.new) };
+        ensures read { IfOk result (λ value. IsRead (code (view value)) reader.old reader.new) }
+        ensures taken { (value : Plain) → IsTakenWhereNext (code value) result reader.old reader.new };
 }
 
-/// Reads a tree from its form, which is the whole text.
+/// Reads a tree from its form, which is the whole text: from the form of any tree, unless an
+/// allocation fails.
 pub fn from_form<T: FromForm + Drop>(alloc: Global, text: &str) -> Result<T, FormError>
-    ensures { IfOk result (λ tree. text.now ≡ form (T.code (T.view tree))) }
+    ensures read { IfOk result (λ tree. text.now ≡ form (T.code (T.view tree))) }
+    ensures taken { (tree : T.Plain) → IsHeld (T.code tree) → text.now ≡ form (T.code tree) →
+        IfErr result (λ error. error.kind ≡ kinds.OutOfMemory) }
 {
     let mut reader = Reader::new(text);
     let tree = T::read_form(alloc, &mut reader)?;
@@ -72,12 +80,13 @@ impl<T: FromForm + Drop> FromForm for Vec<T> {
         if reader.eat("]") {
             return Ok(items);
         }
-        items.push(T::read_form(alloc, reader)?)?;
-        'items: while reader.eat(",") {
+        'items: loop {
             items.push(T::read_form(alloc, reader)?)?;
+            if reader.eat("]") {
+                return Ok(items);
+            }
+            reader.expect(",")?;
         }
-        reader.expect("]")?;
-        Ok(items)
     }
 }
 
@@ -89,11 +98,8 @@ impl<A: FromForm + Drop, B: FromForm + Drop> FromForm for (A, B) {
     ghost code = { λ pair. pair_of (A.code pair.0) (B.code pair.1) };
 
     fn read_form(alloc: Global, reader: &mut Reader) -> Result<Self, FormError> {
-        reader.expect("[")?;
-        let first = A::read_form(alloc, reader)?;
-        reader.expect(",")?;
-        let second = B::read_form(alloc, reader)?;
-        reader.expect("]")?;
+        let first = read_field(alloc, reader, "[")?;
+        let second = read_between(alloc, reader, ",", "]")?;
         Ok((first, second))
     }
 }

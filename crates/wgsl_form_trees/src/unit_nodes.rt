@@ -8,11 +8,11 @@ ghost use Rattle.wgsl_span.specs.View.{spanned_view};
 ghost use Rattle.wgsl_tree_code.specs.Code.{attributed_code};
 ghost use Rattle.wgsl_tree_unit.specs.View.{diagnostic_directive_view, enable_directive_view, function_view, global_declaration_view, global_directive_view, member_view, parameter_view, requires_directive_view, struct_view, type_alias_view, unit_view};
 
-use crate::part::{read_field, read_held};
+use crate::part::{read_between, read_six, read_three, read_two};
+use crate::text::read_placed;
 use crate::traits::FromForm;
 use std::alloc::Global;
 use wgsl_form_reader::{FormError, FormErrorKind, Reader};
-use wgsl_span::Spanned;
 use wgsl_tree_unit::{
     DiagnosticDirective, EnableDirective, FormalParameter, Function, GlobalDeclaration,
     GlobalDeclarationNode, GlobalDirective, RequiresDirective, Struct, StructMember,
@@ -27,9 +27,12 @@ impl FromForm for TranslationUnit {
     ghost code = { unit_code };
 
     fn read_form(alloc: Global, reader: &mut Reader) -> Result<Self, FormError> {
-        let global_directives = read_field(alloc, reader, "{\"global_directives\":")?;
-        let global_declarations = read_field(alloc, reader, ",\"global_declarations\":")?;
-        reader.expect("}")?;
+        let (global_directives, global_declarations) = read_two(
+            alloc,
+            reader,
+            "{\"global_directives\":",
+            ",\"global_declarations\":",
+        )?;
         Ok(TranslationUnit {
             global_directives,
             global_declarations,
@@ -47,15 +50,15 @@ impl FromForm for GlobalDirective {
     fn read_form(alloc: Global, reader: &mut Reader) -> Result<Self, FormError> {
         match reader.next_name() {
             "Diagnostic" => {
-                let inner = read_held(alloc, reader, "{\"Diagnostic\":")?;
+                let inner = read_between(alloc, reader, "{\"Diagnostic\":", "}")?;
                 Ok(GlobalDirective::Diagnostic(inner))
             }
             "Enable" => {
-                let inner = read_held(alloc, reader, "{\"Enable\":")?;
+                let inner = read_between(alloc, reader, "{\"Enable\":", "}")?;
                 Ok(GlobalDirective::Enable(inner))
             }
             "Requires" => {
-                let inner = read_held(alloc, reader, "{\"Requires\":")?;
+                let inner = read_between(alloc, reader, "{\"Requires\":", "}")?;
                 Ok(GlobalDirective::Requires(inner))
             }
             _ => Err(reader.error(FormErrorKind::Expected("a `GlobalDirective`"))),
@@ -77,23 +80,23 @@ impl FromForm for GlobalDeclaration {
                 Ok(GlobalDeclaration::Void)
             }
             "Declaration" => {
-                let inner = read_held(alloc, reader, "{\"Declaration\":")?;
+                let inner = read_between(alloc, reader, "{\"Declaration\":", "}")?;
                 Ok(GlobalDeclaration::Declaration(inner))
             }
             "TypeAlias" => {
-                let inner = read_held(alloc, reader, "{\"TypeAlias\":")?;
+                let inner = read_between(alloc, reader, "{\"TypeAlias\":", "}")?;
                 Ok(GlobalDeclaration::TypeAlias(inner))
             }
             "Struct" => {
-                let inner = read_held(alloc, reader, "{\"Struct\":")?;
+                let inner = read_between(alloc, reader, "{\"Struct\":", "}")?;
                 Ok(GlobalDeclaration::Struct(inner))
             }
             "Function" => {
-                let inner = read_held(alloc, reader, "{\"Function\":")?;
+                let inner = read_between(alloc, reader, "{\"Function\":", "}")?;
                 Ok(GlobalDeclaration::Function(inner))
             }
             "ConstAssert" => {
-                let inner = read_held(alloc, reader, "{\"ConstAssert\":")?;
+                let inner = read_between(alloc, reader, "{\"ConstAssert\":", "}")?;
                 Ok(GlobalDeclaration::ConstAssert(inner))
             }
             _ => Err(reader.error(FormErrorKind::Expected("a `GlobalDeclaration`"))),
@@ -109,12 +112,7 @@ impl FromForm for GlobalDeclarationNode {
     ghost code = { global_declaration_node_code };
 
     fn read_form(alloc: Global, reader: &mut Reader) -> Result<Self, FormError> {
-        reader.expect("{\"span\":")?;
-        let span = reader.read_span()?;
-        reader.expect(",\"node\":")?;
-        let node = GlobalDeclaration::read_form(alloc, reader)?;
-        reader.expect("}")?;
-        Ok(Spanned::new(alloc, node, span)?)
+        read_placed(alloc, reader)
     }
 }
 
@@ -126,10 +124,13 @@ impl FromForm for DiagnosticDirective {
     ghost code = { attributed_code diagnostic_directive_code };
 
     fn read_form(alloc: Global, reader: &mut Reader) -> Result<Self, FormError> {
-        let attributes = read_field(alloc, reader, "{\"attributes\":")?;
-        let severity = read_field(alloc, reader, ",\"severity\":")?;
-        let rule_name = read_field(alloc, reader, ",\"rule_name\":")?;
-        reader.expect("}")?;
+        let (attributes, severity, rule_name) = read_three(
+            alloc,
+            reader,
+            "{\"attributes\":",
+            ",\"severity\":",
+            ",\"rule_name\":",
+        )?;
         Ok(DiagnosticDirective {
             attributes,
             severity,
@@ -146,9 +147,12 @@ impl FromForm for EnableDirective {
     ghost code = { attributed_code enable_directive_code };
 
     fn read_form(alloc: Global, reader: &mut Reader) -> Result<Self, FormError> {
-        let attributes = read_field(alloc, reader, "{\"attributes\":")?;
-        let extensions = read_field(alloc, reader, ",\"extensions\":")?;
-        reader.expect("}")?;
+        let (attributes, extensions) = read_two(
+            alloc,
+            reader,
+            "{\"attributes\":",
+            ",\"extensions\":",
+        )?;
         Ok(EnableDirective {
             attributes,
             extensions,
@@ -164,9 +168,12 @@ impl FromForm for RequiresDirective {
     ghost code = { attributed_code requires_directive_code };
 
     fn read_form(alloc: Global, reader: &mut Reader) -> Result<Self, FormError> {
-        let attributes = read_field(alloc, reader, "{\"attributes\":")?;
-        let extensions = read_field(alloc, reader, ",\"extensions\":")?;
-        reader.expect("}")?;
+        let (attributes, extensions) = read_two(
+            alloc,
+            reader,
+            "{\"attributes\":",
+            ",\"extensions\":",
+        )?;
         Ok(RequiresDirective {
             attributes,
             extensions,
@@ -182,10 +189,13 @@ impl FromForm for Struct {
     ghost code = { attributed_code struct_code };
 
     fn read_form(alloc: Global, reader: &mut Reader) -> Result<Self, FormError> {
-        let attributes = read_field(alloc, reader, "{\"attributes\":")?;
-        let ident = read_field(alloc, reader, ",\"ident\":")?;
-        let members = read_field(alloc, reader, ",\"members\":")?;
-        reader.expect("}")?;
+        let (attributes, ident, members) = read_three(
+            alloc,
+            reader,
+            "{\"attributes\":",
+            ",\"ident\":",
+            ",\"members\":",
+        )?;
         Ok(Struct {
             attributes,
             ident,
@@ -202,10 +212,13 @@ impl FromForm for StructMember {
     ghost code = { member_code };
 
     fn read_form(alloc: Global, reader: &mut Reader) -> Result<Self, FormError> {
-        let attributes = read_field(alloc, reader, "{\"attributes\":")?;
-        let ident = read_field(alloc, reader, ",\"ident\":")?;
-        let ty = read_field(alloc, reader, ",\"ty\":")?;
-        reader.expect("}")?;
+        let (attributes, ident, ty) = read_three(
+            alloc,
+            reader,
+            "{\"attributes\":",
+            ",\"ident\":",
+            ",\"ty\":",
+        )?;
         Ok(StructMember {
             attributes,
             ident,
@@ -222,12 +235,7 @@ impl FromForm for StructMemberNode {
     ghost code = { struct_member_node_code };
 
     fn read_form(alloc: Global, reader: &mut Reader) -> Result<Self, FormError> {
-        reader.expect("{\"span\":")?;
-        let span = reader.read_span()?;
-        reader.expect(",\"node\":")?;
-        let node = StructMember::read_form(alloc, reader)?;
-        reader.expect("}")?;
-        Ok(Spanned::new(alloc, node, span)?)
+        read_placed(alloc, reader)
     }
 }
 
@@ -239,10 +247,13 @@ impl FromForm for TypeAlias {
     ghost code = { attributed_code type_alias_code };
 
     fn read_form(alloc: Global, reader: &mut Reader) -> Result<Self, FormError> {
-        let attributes = read_field(alloc, reader, "{\"attributes\":")?;
-        let ident = read_field(alloc, reader, ",\"ident\":")?;
-        let ty = read_field(alloc, reader, ",\"ty\":")?;
-        reader.expect("}")?;
+        let (attributes, ident, ty) = read_three(
+            alloc,
+            reader,
+            "{\"attributes\":",
+            ",\"ident\":",
+            ",\"ty\":",
+        )?;
         Ok(TypeAlias {
             attributes,
             ident,
@@ -259,13 +270,16 @@ impl FromForm for Function {
     ghost code = { attributed_code function_code };
 
     fn read_form(alloc: Global, reader: &mut Reader) -> Result<Self, FormError> {
-        let attributes = read_field(alloc, reader, "{\"attributes\":")?;
-        let ident = read_field(alloc, reader, ",\"ident\":")?;
-        let parameters = read_field(alloc, reader, ",\"parameters\":")?;
-        let return_attributes = read_field(alloc, reader, ",\"return_attributes\":")?;
-        let return_type = read_field(alloc, reader, ",\"return_type\":")?;
-        let body = read_field(alloc, reader, ",\"body\":")?;
-        reader.expect("}")?;
+        let (attributes, ident, parameters, return_attributes, return_type, body) = read_six(
+            alloc,
+            reader,
+            "{\"attributes\":",
+            ",\"ident\":",
+            ",\"parameters\":",
+            ",\"return_attributes\":",
+            ",\"return_type\":",
+            ",\"body\":",
+        )?;
         Ok(Function {
             attributes,
             ident,
@@ -285,10 +299,13 @@ impl FromForm for FormalParameter {
     ghost code = { parameter_code };
 
     fn read_form(alloc: Global, reader: &mut Reader) -> Result<Self, FormError> {
-        let attributes = read_field(alloc, reader, "{\"attributes\":")?;
-        let ident = read_field(alloc, reader, ",\"ident\":")?;
-        let ty = read_field(alloc, reader, ",\"ty\":")?;
-        reader.expect("}")?;
+        let (attributes, ident, ty) = read_three(
+            alloc,
+            reader,
+            "{\"attributes\":",
+            ",\"ident\":",
+            ",\"ty\":",
+        )?;
         Ok(FormalParameter {
             attributes,
             ident,

@@ -1,10 +1,12 @@
 //! Written by tools/tables/form_readers.py from crates/wgsl_model/nodes: the words.
 
+ghost use Rattle.std.specs.Prelude.{◌≡◌, MatchResult};
 ghost use Rattle.wgsl_model.specs.Trees.NamedValues as plain_named_values;
 ghost use Rattle.wgsl_tree_code.specs.WordNodes.{access_mode_code, address_space_code, builtin_value_code, diagnostic_severity_code, interpolation_sampling_code, interpolation_type_code};
 ghost use Rattle.wgsl_model.specs.Trees.Operators as plain_operators;
 ghost use Rattle.wgsl_tree_code.specs.OperatorNodes.{assignment_operator_code, binary_operator_code, unary_operator_code};
 ghost use Rattle.wgsl_tree_words.specs.View.{access_mode_view, address_space_view, assignment_operator_view, binary_operator_view, builtin_value_view, interpolation_sampling_view, interpolation_type_view, severity_view, unary_operator_view};
+ghost use Rattle.wgsl_model.specs.Printed.Operators.{assignment_operator_text, binary_operator_text, unary_operator_text};
 
 use crate::traits::FromForm;
 use std::alloc::Global;
@@ -22,19 +24,14 @@ impl FromForm for DiagnosticSeverity {
     ghost code = { diagnostic_severity_code };
 
     fn read_form(_: Global, reader: &mut Reader) -> Result<Self, FormError> {
-        if reader.eat("\"error\"") {
-            return Ok(DiagnosticSeverity::Error);
+        let error = reader.error(FormErrorKind::Expected("a `DiagnosticSeverity`"));
+        let Some(word) = reader.read_word() else {
+            return Err(error);
+        };
+        match DiagnosticSeverity::from_str(word) {
+            Ok(value) => Ok(value),
+            Err(()) => Err(error),
         }
-        if reader.eat("\"warning\"") {
-            return Ok(DiagnosticSeverity::Warning);
-        }
-        if reader.eat("\"info\"") {
-            return Ok(DiagnosticSeverity::Info);
-        }
-        if reader.eat("\"off\"") {
-            return Ok(DiagnosticSeverity::Off);
-        }
-        Err(reader.error(FormErrorKind::Expected("a `DiagnosticSeverity`")))
     }
 }
 
@@ -46,22 +43,14 @@ impl FromForm for AddressSpace {
     ghost code = { address_space_code };
 
     fn read_form(_: Global, reader: &mut Reader) -> Result<Self, FormError> {
-        if reader.eat("\"function\"") {
-            return Ok(AddressSpace::Function);
+        let error = reader.error(FormErrorKind::Expected("a `AddressSpace`"));
+        let Some(word) = reader.read_word() else {
+            return Err(error);
+        };
+        match AddressSpace::from_str(word) {
+            Ok(value) => Ok(value),
+            Err(()) => Err(error),
         }
-        if reader.eat("\"private\"") {
-            return Ok(AddressSpace::Private);
-        }
-        if reader.eat("\"workgroup\"") {
-            return Ok(AddressSpace::Workgroup);
-        }
-        if reader.eat("\"uniform\"") {
-            return Ok(AddressSpace::Uniform);
-        }
-        if reader.eat("\"storage\"") {
-            return Ok(AddressSpace::Storage);
-        }
-        Err(reader.error(FormErrorKind::Expected("a `AddressSpace`")))
     }
 }
 
@@ -73,16 +62,14 @@ impl FromForm for AccessMode {
     ghost code = { access_mode_code };
 
     fn read_form(_: Global, reader: &mut Reader) -> Result<Self, FormError> {
-        if reader.eat("\"read\"") {
-            return Ok(AccessMode::Read);
+        let error = reader.error(FormErrorKind::Expected("a `AccessMode`"));
+        let Some(word) = reader.read_word() else {
+            return Err(error);
+        };
+        match AccessMode::from_str(word) {
+            Ok(value) => Ok(value),
+            Err(()) => Err(error),
         }
-        if reader.eat("\"write\"") {
-            return Ok(AccessMode::Write);
-        }
-        if reader.eat("\"read_write\"") {
-            return Ok(AccessMode::ReadWrite);
-        }
-        Err(reader.error(FormErrorKind::Expected("a `AccessMode`")))
     }
 }
 
@@ -94,52 +81,14 @@ impl FromForm for BuiltinValue {
     ghost code = { builtin_value_code };
 
     fn read_form(_: Global, reader: &mut Reader) -> Result<Self, FormError> {
-        if reader.eat("\"vertex_index\"") {
-            return Ok(BuiltinValue::VertexIndex);
+        let error = reader.error(FormErrorKind::Expected("a `BuiltinValue`"));
+        let Some(word) = reader.read_word() else {
+            return Err(error);
+        };
+        match BuiltinValue::from_str(word) {
+            Ok(value) => Ok(value),
+            Err(()) => Err(error),
         }
-        if reader.eat("\"instance_index\"") {
-            return Ok(BuiltinValue::InstanceIndex);
-        }
-        if reader.eat("\"clip_distances\"") {
-            return Ok(BuiltinValue::ClipDistances);
-        }
-        if reader.eat("\"position\"") {
-            return Ok(BuiltinValue::Position);
-        }
-        if reader.eat("\"front_facing\"") {
-            return Ok(BuiltinValue::FrontFacing);
-        }
-        if reader.eat("\"frag_depth\"") {
-            return Ok(BuiltinValue::FragDepth);
-        }
-        if reader.eat("\"sample_index\"") {
-            return Ok(BuiltinValue::SampleIndex);
-        }
-        if reader.eat("\"sample_mask\"") {
-            return Ok(BuiltinValue::SampleMask);
-        }
-        if reader.eat("\"local_invocation_id\"") {
-            return Ok(BuiltinValue::LocalInvocationId);
-        }
-        if reader.eat("\"local_invocation_index\"") {
-            return Ok(BuiltinValue::LocalInvocationIndex);
-        }
-        if reader.eat("\"global_invocation_id\"") {
-            return Ok(BuiltinValue::GlobalInvocationId);
-        }
-        if reader.eat("\"workgroup_id\"") {
-            return Ok(BuiltinValue::WorkgroupId);
-        }
-        if reader.eat("\"num_workgroups\"") {
-            return Ok(BuiltinValue::NumWorkgroups);
-        }
-        if reader.eat("\"subgroup_invocation_id\"") {
-            return Ok(BuiltinValue::SubgroupInvocationId);
-        }
-        if reader.eat("\"subgroup_size\"") {
-            return Ok(BuiltinValue::SubgroupSize);
-        }
-        Err(reader.error(FormErrorKind::Expected("a `BuiltinValue`")))
     }
 }
 
@@ -151,16 +100,14 @@ impl FromForm for InterpolationType {
     ghost code = { interpolation_type_code };
 
     fn read_form(_: Global, reader: &mut Reader) -> Result<Self, FormError> {
-        if reader.eat("\"perspective\"") {
-            return Ok(InterpolationType::Perspective);
+        let error = reader.error(FormErrorKind::Expected("a `InterpolationType`"));
+        let Some(word) = reader.read_word() else {
+            return Err(error);
+        };
+        match InterpolationType::from_str(word) {
+            Ok(value) => Ok(value),
+            Err(()) => Err(error),
         }
-        if reader.eat("\"linear\"") {
-            return Ok(InterpolationType::Linear);
-        }
-        if reader.eat("\"flat\"") {
-            return Ok(InterpolationType::Flat);
-        }
-        Err(reader.error(FormErrorKind::Expected("a `InterpolationType`")))
     }
 }
 
@@ -172,22 +119,30 @@ impl FromForm for InterpolationSampling {
     ghost code = { interpolation_sampling_code };
 
     fn read_form(_: Global, reader: &mut Reader) -> Result<Self, FormError> {
-        if reader.eat("\"center\"") {
-            return Ok(InterpolationSampling::Center);
+        let error = reader.error(FormErrorKind::Expected("a `InterpolationSampling`"));
+        let Some(word) = reader.read_word() else {
+            return Err(error);
+        };
+        match InterpolationSampling::from_str(word) {
+            Ok(value) => Ok(value),
+            Err(()) => Err(error),
         }
-        if reader.eat("\"centroid\"") {
-            return Ok(InterpolationSampling::Centroid);
-        }
-        if reader.eat("\"sample\"") {
-            return Ok(InterpolationSampling::Sample);
-        }
-        if reader.eat("\"first\"") {
-            return Ok(InterpolationSampling::First);
-        }
-        if reader.eat("\"either\"") {
-            return Ok(InterpolationSampling::Either);
-        }
-        Err(reader.error(FormErrorKind::Expected("a `InterpolationSampling`")))
+    }
+}
+
+/// The operator that a text is, or an error where there is none.
+fn unary_operator(text: &str) -> Result<UnaryOperator, ()>
+    ensures { MatchResult result
+        (λ value. text.now ≡ unary_operator_text (unary_operator_view value))
+        (λ _. (value : plain_operators.UnaryOperator) → ¬ (text.now ≡ unary_operator_text value)) }
+{
+    match text {
+        "!" => Ok(UnaryOperator::LogicalNegation),
+        "-" => Ok(UnaryOperator::Negation),
+        "~" => Ok(UnaryOperator::BitwiseComplement),
+        "&" => Ok(UnaryOperator::AddressOf),
+        "*" => Ok(UnaryOperator::Indirection),
+        _ => Err(()),
     }
 }
 
@@ -199,22 +154,43 @@ impl FromForm for UnaryOperator {
     ghost code = { unary_operator_code };
 
     fn read_form(_: Global, reader: &mut Reader) -> Result<Self, FormError> {
-        if reader.eat("\"!\"") {
-            return Ok(UnaryOperator::LogicalNegation);
+        let error = reader.error(FormErrorKind::Expected("a `UnaryOperator`"));
+        let Some(word) = reader.read_word() else {
+            return Err(error);
+        };
+        match unary_operator(word) {
+            Ok(value) => Ok(value),
+            Err(()) => Err(error),
         }
-        if reader.eat("\"-\"") {
-            return Ok(UnaryOperator::Negation);
-        }
-        if reader.eat("\"~\"") {
-            return Ok(UnaryOperator::BitwiseComplement);
-        }
-        if reader.eat("\"&\"") {
-            return Ok(UnaryOperator::AddressOf);
-        }
-        if reader.eat("\"*\"") {
-            return Ok(UnaryOperator::Indirection);
-        }
-        Err(reader.error(FormErrorKind::Expected("a `UnaryOperator`")))
+    }
+}
+
+/// The operator that a text is, or an error where there is none.
+fn binary_operator(text: &str) -> Result<BinaryOperator, ()>
+    ensures { MatchResult result
+        (λ value. text.now ≡ binary_operator_text (binary_operator_view value))
+        (λ _. (value : plain_operators.BinaryOperator) → ¬ (text.now ≡ binary_operator_text value)) }
+{
+    match text {
+        "||" => Ok(BinaryOperator::ShortCircuitOr),
+        "&&" => Ok(BinaryOperator::ShortCircuitAnd),
+        "+" => Ok(BinaryOperator::Addition),
+        "-" => Ok(BinaryOperator::Subtraction),
+        "*" => Ok(BinaryOperator::Multiplication),
+        "/" => Ok(BinaryOperator::Division),
+        "%" => Ok(BinaryOperator::Remainder),
+        "==" => Ok(BinaryOperator::Equality),
+        "!=" => Ok(BinaryOperator::Inequality),
+        "<" => Ok(BinaryOperator::LessThan),
+        "<=" => Ok(BinaryOperator::LessThanEqual),
+        ">" => Ok(BinaryOperator::GreaterThan),
+        ">=" => Ok(BinaryOperator::GreaterThanEqual),
+        "|" => Ok(BinaryOperator::BitwiseOr),
+        "&" => Ok(BinaryOperator::BitwiseAnd),
+        "^" => Ok(BinaryOperator::BitwiseXor),
+        "<<" => Ok(BinaryOperator::ShiftLeft),
+        ">>" => Ok(BinaryOperator::ShiftRight),
+        _ => Err(()),
     }
 }
 
@@ -226,61 +202,36 @@ impl FromForm for BinaryOperator {
     ghost code = { binary_operator_code };
 
     fn read_form(_: Global, reader: &mut Reader) -> Result<Self, FormError> {
-        if reader.eat("\"||\"") {
-            return Ok(BinaryOperator::ShortCircuitOr);
+        let error = reader.error(FormErrorKind::Expected("a `BinaryOperator`"));
+        let Some(word) = reader.read_word() else {
+            return Err(error);
+        };
+        match binary_operator(word) {
+            Ok(value) => Ok(value),
+            Err(()) => Err(error),
         }
-        if reader.eat("\"&&\"") {
-            return Ok(BinaryOperator::ShortCircuitAnd);
-        }
-        if reader.eat("\"+\"") {
-            return Ok(BinaryOperator::Addition);
-        }
-        if reader.eat("\"-\"") {
-            return Ok(BinaryOperator::Subtraction);
-        }
-        if reader.eat("\"*\"") {
-            return Ok(BinaryOperator::Multiplication);
-        }
-        if reader.eat("\"/\"") {
-            return Ok(BinaryOperator::Division);
-        }
-        if reader.eat("\"%\"") {
-            return Ok(BinaryOperator::Remainder);
-        }
-        if reader.eat("\"==\"") {
-            return Ok(BinaryOperator::Equality);
-        }
-        if reader.eat("\"!=\"") {
-            return Ok(BinaryOperator::Inequality);
-        }
-        if reader.eat("\"<\"") {
-            return Ok(BinaryOperator::LessThan);
-        }
-        if reader.eat("\"<=\"") {
-            return Ok(BinaryOperator::LessThanEqual);
-        }
-        if reader.eat("\">\"") {
-            return Ok(BinaryOperator::GreaterThan);
-        }
-        if reader.eat("\">=\"") {
-            return Ok(BinaryOperator::GreaterThanEqual);
-        }
-        if reader.eat("\"|\"") {
-            return Ok(BinaryOperator::BitwiseOr);
-        }
-        if reader.eat("\"&\"") {
-            return Ok(BinaryOperator::BitwiseAnd);
-        }
-        if reader.eat("\"^\"") {
-            return Ok(BinaryOperator::BitwiseXor);
-        }
-        if reader.eat("\"<<\"") {
-            return Ok(BinaryOperator::ShiftLeft);
-        }
-        if reader.eat("\">>\"") {
-            return Ok(BinaryOperator::ShiftRight);
-        }
-        Err(reader.error(FormErrorKind::Expected("a `BinaryOperator`")))
+    }
+}
+
+/// The operator that a text is, or an error where there is none.
+fn assignment_operator(text: &str) -> Result<AssignmentOperator, ()>
+    ensures { MatchResult result
+        (λ value. text.now ≡ assignment_operator_text (assignment_operator_view value))
+        (λ _. (value : plain_operators.AssignmentOperator) → ¬ (text.now ≡ assignment_operator_text value)) }
+{
+    match text {
+        "=" => Ok(AssignmentOperator::Equal),
+        "+=" => Ok(AssignmentOperator::PlusEqual),
+        "-=" => Ok(AssignmentOperator::MinusEqual),
+        "*=" => Ok(AssignmentOperator::TimesEqual),
+        "/=" => Ok(AssignmentOperator::DivisionEqual),
+        "%=" => Ok(AssignmentOperator::ModuloEqual),
+        "&=" => Ok(AssignmentOperator::AndEqual),
+        "|=" => Ok(AssignmentOperator::OrEqual),
+        "^=" => Ok(AssignmentOperator::XorEqual),
+        ">>=" => Ok(AssignmentOperator::ShiftRightAssign),
+        "<<=" => Ok(AssignmentOperator::ShiftLeftAssign),
+        _ => Err(()),
     }
 }
 
@@ -292,39 +243,13 @@ impl FromForm for AssignmentOperator {
     ghost code = { assignment_operator_code };
 
     fn read_form(_: Global, reader: &mut Reader) -> Result<Self, FormError> {
-        if reader.eat("\"=\"") {
-            return Ok(AssignmentOperator::Equal);
+        let error = reader.error(FormErrorKind::Expected("a `AssignmentOperator`"));
+        let Some(word) = reader.read_word() else {
+            return Err(error);
+        };
+        match assignment_operator(word) {
+            Ok(value) => Ok(value),
+            Err(()) => Err(error),
         }
-        if reader.eat("\"+=\"") {
-            return Ok(AssignmentOperator::PlusEqual);
-        }
-        if reader.eat("\"-=\"") {
-            return Ok(AssignmentOperator::MinusEqual);
-        }
-        if reader.eat("\"*=\"") {
-            return Ok(AssignmentOperator::TimesEqual);
-        }
-        if reader.eat("\"/=\"") {
-            return Ok(AssignmentOperator::DivisionEqual);
-        }
-        if reader.eat("\"%=\"") {
-            return Ok(AssignmentOperator::ModuloEqual);
-        }
-        if reader.eat("\"&=\"") {
-            return Ok(AssignmentOperator::AndEqual);
-        }
-        if reader.eat("\"|=\"") {
-            return Ok(AssignmentOperator::OrEqual);
-        }
-        if reader.eat("\"^=\"") {
-            return Ok(AssignmentOperator::XorEqual);
-        }
-        if reader.eat("\">>=\"") {
-            return Ok(AssignmentOperator::ShiftRightAssign);
-        }
-        if reader.eat("\"<<=\"") {
-            return Ok(AssignmentOperator::ShiftLeftAssign);
-        }
-        Err(reader.error(FormErrorKind::Expected("a `AssignmentOperator`")))
     }
 }

@@ -1,5 +1,5 @@
 pub mod Chains
-mod Views
+pub mod Views
 mod Texts
 mod Copies
 mod Equalities

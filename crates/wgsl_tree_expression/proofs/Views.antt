@@ -59,7 +59,7 @@ for_views law = law plain.Expression plain.Expression plain.FunctionCall plain.E
     V.type_expression_step V.unary_expression_step
 
 -- a spanned expression, seen through its box
-seen : Spanned Expression → Spanned plain.Expression
+pub seen : Spanned Expression → Spanned plain.Expression
 seen s = record {
   node = record
       { ptr = s.node.ptr; alloc = s.node.alloc; value = V.expression_view s.node.value };
@@ -67,7 +67,7 @@ seen s = record {
       s.span;
 }
 
-nodes_seen : (xs : List (Spanned Expression)) → V.nodes_of (map seen xs)
+pub nodes_seen : (xs : List (Spanned Expression)) → V.nodes_of (map seen xs)
     ≡ V.expression_nodes_view xs
 unfolding seen
 nodes_seen [] = refl
@@ -88,7 +88,7 @@ unfolding seen
 call_view_roll x = for_views folds.fold-roll-FunctionCall x
     ∙ ap (plain.call (V.type_expression_view x.ty)) (nodes_seen x.arguments.items)
 
-args_seen : (xs : List TemplateArg) → plain.expressions_of (map V.template_arg_view xs)
+pub args_seen : (xs : List TemplateArg) → plain.expressions_of (map V.template_arg_view xs)
     ≡ V.template_arg_nodes_view xs
 args_seen [] = refl
 args_seen (a ∷ xs) = ap (plain.expression_before (V.template_arg_view a)) (args_seen xs)

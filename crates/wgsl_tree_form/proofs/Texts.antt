@@ -1,14 +1,15 @@
 -- What is written of the characters of a text.
-use Rattle.std.proofs.Common.{ℕ, ◌+◌, ◌/◌, ◌%◌, ◌<◌, ◌≤◌, ◌≡◌, ◌≢◌, refl, sym, ap, ◌∙◌, true, false, List, [], ◌∷◌, ◌++◌, length, codes, append-nil, arith}
+use Rattle.std.proofs.Common.{ℕ, ◌+◌, ◌/◌, ◌%◌, ◌<◌, ◌≤◌, ◌≡◌, ◌≢◌, refl, sym, ap, ◌∙◌, true, false, true≢false, List, [], ◌∷◌, ◌++◌, ◌&&◌, length, codes, append-nil, arith}
 use lib.Dec.{ltb}
 use mathlib.Core.Bool.{cond}
 use Rattle.std.specs.Fmt.{digit_glyph}
 use Rattle.std.specs.Char.{encode_utf8}
+use Rattle.std.specs.List.{list_all}
 use Rattle.std.proofs.lemmas.Fmt.{hex_byte}
 use Rattle.std.proofs.lemmas.Str.{encode_ascii}
 use Rattle.std.proofs.lemmas.Grind.{flat_map-append, common_steps}
 use Rattle.wgsl_tree_code.specs.Form.{escaped, escaped_byte}
-use Rattle.wgsl_tree_form.specs.Texts.{control}
+use Rattle.wgsl_tree_form.specs.Texts.{control, is_plain}
 
 -- a byte that is written as it is
 plain_byte : (b : ℕ) → 32 ≤ b → b ≢ 34 → b ≢ 92 → escaped_byte b ≡ b ∷ []
@@ -25,6 +26,18 @@ kept b bs one rest = ap (λ u. u ++ escaped bs) one ∙ ap (λ u. b ∷ u) rest
 high : (n : ℕ) → 128 ≤ n → escaped_byte n ≡ n ∷ []
 high n large = plain_byte n (omega (arith, large)) (λ e. absurd (omega (arith, large, e)))
     (λ e. absurd (omega (arith, large, e)))
+
+plain_kept : (b : ℕ) → is_plain b ≡ true → escaped_byte b ≡ b ∷ []
+plain_kept b plain = grind (arith, common_steps)
+
+-- a text of bytes that are written as they are
+pub plain_text : (bs : List ℕ) → list_all is_plain bs ≡ true → escaped bs ≡ bs
+plain_text [] every = refl
+plain_text (b ∷ bs) every = elim (is_plain b) as (λ t. is_plain b ≡ t → (t && list_all is_plain bs) ≡ true →
+    escaped (b ∷ bs) ≡ b ∷ bs) [
+      | true ↦ λ plain all. kept b bs (plain_kept b plain) (plain_text bs all)
+      | false ↦ λ _ none. absurd (true≢false (sym none))
+    ] refl every
 
 -- a byte that is not the first of a character
 following : (n : ℕ) (bs : List ℕ) → escaped bs ≡ bs →

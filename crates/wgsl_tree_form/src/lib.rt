@@ -16,4 +16,5 @@ mod unit_nodes;
 mod word_nodes;
 
 pub use chain::write_expression;
+pub use text::write_text;
 pub use traits::{Form, Formed, write_form};

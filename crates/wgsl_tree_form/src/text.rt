@@ -1,14 +1,15 @@
 //! Texts.
 
-ghost use Rattle.std.specs.Prelude.{◌<◌, string_bytes, ℕ, List};
+ghost use Rattle.std.specs.Prelude.{◌≡◌, ◌<◌, ◌++◌, codes, string_bytes, ℕ, List};
 ghost use Rattle.std.specs.Fmt.{WritesOnOk};
 ghost use Rattle.std.specs.Char.{encode_utf8};
+ghost use Rattle.std.specs.List.{list_all};
 ghost use Rattle.wgsl_tree_code.specs.Code.{text};
 ghost use Rattle.wgsl_tree_code.specs.Form.{escaped, quoted};
 ghost use Rattle.wgsl_span.specs.View.{span_view};
 ghost use Rattle.wgsl_tree_expression.specs.View.{ident_name};
 ghost use Rattle.wgsl_tree_form.specs.Openings.{place};
-ghost use Rattle.wgsl_tree_form.specs.Texts.{control};
+ghost use Rattle.wgsl_tree_form.specs.Texts.{control, is_plain};
 
 use crate::traits::Form;
 use std::fmt;
@@ -46,13 +47,39 @@ pub fn write_place<W: fmt::Write>(span: Span, f: &mut fmt::Formatter<W>) -> fmt:
 {
     let start = span.start;
     let end = span.end;
-    write!(f, "{{\"span\":[{start},{end}],\"node\":")
+    f.write_str("{\"span\":[")?;
+    write!(f, "{start}")?;
+    f.write_str(",")?;
+    write!(f, "{end}")?;
+    f.write_str("],\"node\":")
+}
+
+/// Whether each character of a text is written as it is.
+fn is_plain(text: &str) -> bool
+    ensures { result ≡ list_all is_plain text.now }
+{
+    text.as_bytes()
+        .iter()
+        .all(|b| *b >= 32 && *b != b'"' && *b != b'\\')
+}
+
+/// Writes a text as it is between quotation marks.
+fn write_plain<W: fmt::Write>(text: &str, f: &mut fmt::Formatter<W>) -> fmt::Result
+    ensures { WritesOnOk W.write_str_gives f.old result
+        (codes "\"" ++ text.now ++ codes "\"") f.new }
+{
+    f.write_str("\"")?;
+    f.write_str(text)?;
+    f.write_str("\"")
 }
 
 /// Writes a text between quotation marks.
 pub fn write_text<W: fmt::Write>(text: &str, f: &mut fmt::Formatter<W>) -> fmt::Result
     ensures { WritesOnOk W.write_str_gives f.old result (quoted text.now) f.new }
 {
+    if is_plain(text) {
+        return write_plain(text, f);
+    }
     f.write_str("\"")?;
     'text: for c in text.chars() {
         write_character(c, f)?;

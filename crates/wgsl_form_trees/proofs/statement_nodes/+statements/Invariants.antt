@@ -1,9 +1,9 @@
 -- Written by tools/tables/statement_readers.py from crates/wgsl_model/nodes: measures.
-use Rattle.std.proofs.Common.{◌≡◌, ◌<◌, ◌+◌, ◌*◌, length}
+use Rattle.std.proofs.Common.{ℕ, List, codes, ◌≡◌, ◌<◌, ◌+◌, ◌++◌, ◌*◌, length}
 use Rattle.wgsl_tree_code.specs.StatementNodes.{else_if_clause_code, statement_node_code, switch_clause_code}
 use Rattle.wgsl_tree_statement.specs.View.{else_if_clause_view, statement_node_view, switch_clause_view}
 use Rattle.wgsl_form_reader.specs.Reading.{rest}
-use Rattle.wgsl_form_trees.proofs.Lists.{IsOpened}
+use Rattle.wgsl_form_trees.proofs.Lists.{IsLeft, WasNext, ended}
 use Rattle.wgsl_form_trees.proofs.statement_nodes.+statements.Given as goal
 
 abbrev pub decreases-read_statement : goal.decreases-read_statement
@@ -65,8 +65,10 @@ decreases-read_optional_continuing_statement l = 2 * length (rest l.reader.now) 
 
 abbrev pub invariant-read_statement_nodes-nodes : goal.invariant-read_statement_nodes-nodes
 invariant-read_statement_nodes-nodes l = record {
-  opened : IsOpened (λ node. statement_node_code (statement_node_view node))
-      l.nodes.items (rest l.fn.reader) (rest l.reader);
+  opened : rest l.fn.reader ≡ codes "["
+      ++ (ended (λ node. statement_node_code (statement_node_view node)) l.nodes.items ++ rest l.reader);
+  left : (more : List ℕ) → WasNext statement_node_code (rest l.fn.reader) more
+      → IsLeft statement_node_code more (rest l.reader);
   shorter : length (rest l.reader) < length (rest l.fn.reader);
 }
 
@@ -75,8 +77,10 @@ decreases-read_statement_nodes-nodes l = length (rest l.reader)
 
 abbrev pub invariant-read_else_if_clauses-nodes : goal.invariant-read_else_if_clauses-nodes
 invariant-read_else_if_clauses-nodes l = record {
-  opened : IsOpened (λ node. else_if_clause_code (else_if_clause_view node))
-      l.nodes.items (rest l.fn.reader) (rest l.reader);
+  opened : rest l.fn.reader ≡ codes "["
+      ++ (ended (λ node. else_if_clause_code (else_if_clause_view node)) l.nodes.items ++ rest l.reader);
+  left : (more : List ℕ) → WasNext else_if_clause_code (rest l.fn.reader) more
+      → IsLeft else_if_clause_code more (rest l.reader);
   shorter : length (rest l.reader) < length (rest l.fn.reader);
 }
 
@@ -85,8 +89,10 @@ decreases-read_else_if_clauses-nodes l = length (rest l.reader)
 
 abbrev pub invariant-read_switch_clauses-nodes : goal.invariant-read_switch_clauses-nodes
 invariant-read_switch_clauses-nodes l = record {
-  opened : IsOpened (λ node. switch_clause_code (switch_clause_view node))
-      l.nodes.items (rest l.fn.reader) (rest l.reader);
+  opened : rest l.fn.reader ≡ codes "["
+      ++ (ended (λ node. switch_clause_code (switch_clause_view node)) l.nodes.items ++ rest l.reader);
+  left : (more : List ℕ) → WasNext switch_clause_code (rest l.fn.reader) more
+      → IsLeft switch_clause_code more (rest l.reader);
   shorter : length (rest l.reader) < length (rest l.fn.reader);
 }
 

@@ -1,9 +1,14 @@
-use Rattle.std.proofs.Common.{rules, ◌++◌, ◌∙◌, codes}
+use Rattle.std.proofs.Common.{rules, sym, ap, ◌++◌, ◌∙◌, codes}
 use Rattle.std.proofs.Output.{has_written_append, has_written_of_eq}
 use Rattle.std.specs.Char.{encode_utf8}
 use Rattle.wgsl_tree_code.specs.Form.{escaped}
-use Rattle.wgsl_tree_form.proofs.Texts.{further, at_end}
+use Rattle.wgsl_tree_form.proofs.Texts.{plain_text, further, at_end}
 use Rattle.wgsl_tree_form.proofs.text.write_text.Goals as goal
+
+pub returns-then-is_plain : goal.returns-then-is_plain
+returns-then-is_plain g c = λ plain ok.
+    has_written_of_eq _ _ _ _ _ (ap (λ u. codes "\"" ++ u ++ codes "\"")
+    (sym (plain_text c.args.text.now (search rules)))) (c.write_plain.ensures plain ok)
 
 pub text-init : goal.text-init
 text-init g c = λ plain. (codes "\"", search rules, search rules)

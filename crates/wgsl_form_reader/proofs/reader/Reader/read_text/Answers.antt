@@ -1,6 +1,7 @@
 use Rattle.std.proofs.Common.{ℕ, ◌≡◌, ◌∙◌, List, string_bytes, rules}
 use Rattle.wgsl_tree_code.specs.Code.{text}
-use Rattle.wgsl_form_reader.specs.Reading.{IsNoForm}
+use Rattle.wgsl_form_reader.specs.Reading.{IsNotNext}
+use Rattle.wgsl_tree_code.specs.Form.{form}
 use Rattle.wgsl_form_reader.specs.declared.error.FormErrorKind.TheVariants as kinds
 use Rattle.wgsl_form_reader.proofs.Refused.{on_other}
 use Rattle.wgsl_form_reader.proofs.RefusedTexts.{no_text}
@@ -9,7 +10,7 @@ use Rattle.wgsl_form_reader.proofs.reader.Reader.read_text.Goals as goal
 pub returns-in_err-read_escape-clause-refused : goal.returns-in_err-read_escape-clause-refused
 returns-in_err-read_escape-clause-refused c =
     let ended = c.if-eat.ensures in
-    let refused : (bytes : List ℕ) → IsNoForm (text bytes) c.args.self.now = λ bytes more ends e.
+    let refused : (bytes : List ℕ) → IsNotNext (form (text bytes)) c.args.self.now = λ bytes more e.
     no_text (string_bytes c.text.text) c.read_plain.result.now _ _ _ c.text.invariant
     c.read_plain.ensures.read (ended.refused (search rules))
     c.read_plain.ensures.whole

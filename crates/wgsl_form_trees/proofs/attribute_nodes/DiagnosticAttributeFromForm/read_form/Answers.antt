@@ -1,20 +1,15 @@
 -- Written by tools/tables/form_readers.py from crates/wgsl_model/nodes: a proof.
-use Rattle.wgsl_tree_code.specs.Code.{fields_of, text}
-use Rattle.wgsl_tree_code.specs.WordNodes.{diagnostic_severity_code}
-use Rattle.wgsl_tree_words.specs.View.{severity_view}
-use Rattle.std.specs.Prelude.{string_bytes}
-use Rattle.std.proofs.Common.{[], codes, refl, ◌∷◌}
-use Rattle.wgsl_form_trees.proofs.Rows.{first, last, next, node_read}
+use Rattle.wgsl_form_trees.proofs.Passing.{told}
 use Rattle.wgsl_form_trees.proofs.attribute_nodes.DiagnosticAttributeFromForm.read_form.Goals as goal
 
-pub returns : goal.returns
-returns c =
-    let c0 = diagnostic_severity_code (severity_view c.in_ok-severity.severity) in
-    let c1 = text (string_bytes c.in_ok-rule.rule) in
-    node_read {fs = fields_of (
-    (codes "severity", c0) ∷
-    (codes "rule", c1) ∷
-    [])} refl
-    (first c.in_ok-severity.ensures
-    (next c.in_ok-rule.ensures
-    (last c.in_ok-expect.ensures)))
+pub returns-clause-read : goal.returns-clause-read
+returns-clause-read c = c.in_ok-severity.ensures.read
+
+pub returns-in_err-severity-clause-taken : goal.returns-in_err-severity-clause-taken
+returns-in_err-severity-clause-taken c = λ value held more e.
+    told c.from_residual.result _ _ c.from_residual.ensures
+    (c.in_err-severity.ensures.taken value.severity value.rule held.1.0 held.1.1.1.0 more e)
+
+pub returns-clause-taken : goal.returns-clause-taken
+returns-clause-taken c =
+    λ value held more e. c.in_ok-severity.ensures.taken value.severity value.rule held.1.0 held.1.1.1.0 more e

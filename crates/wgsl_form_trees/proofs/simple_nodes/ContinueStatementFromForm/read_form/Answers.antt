@@ -1,18 +1,13 @@
 -- Written by tools/tables/form_readers.py from crates/wgsl_model/nodes: a proof.
-use Rattle.wgsl_tree_code.specs.Code.{fields_of, list_of}
-use Rattle.wgsl_tree_code.specs.AttributeNodes.{attribute_node_code}
-use Rattle.wgsl_tree_attribute.specs.View.{attribute_view}
-use Rattle.wgsl_span.specs.View.{spanned_view}
-use Rattle.std.specs.Prelude.{map}
-use Rattle.std.proofs.Common.{[], codes, refl, ◌∷◌}
-use Rattle.wgsl_form_trees.proofs.Rows.{first, last, node_read}
+use Rattle.wgsl_form_trees.proofs.Passing.{told}
 use Rattle.wgsl_form_trees.proofs.simple_nodes.ContinueStatementFromForm.read_form.Goals as goal
 
-pub returns : goal.returns
-returns c =
-    let c0 = list_of attribute_node_code (map (spanned_view attribute_view) c.in_ok-attributes.attributes.items) in
-    node_read {fs = fields_of (
-    (codes "attributes", c0) ∷
-    [])} refl
-    (first c.in_ok-attributes.ensures
-    (last c.in_ok-expect.ensures))
+pub returns-clause-read : goal.returns-clause-read
+returns-clause-read c = c.in_ok-attributes.ensures.read
+
+pub returns-in_err-attributes-clause-taken : goal.returns-in_err-attributes-clause-taken
+returns-in_err-attributes-clause-taken c = λ value held more e.
+    told c.from_residual.result _ _ c.from_residual.ensures (c.in_err-attributes.ensures.taken value held.1.0 more e)
+
+pub returns-clause-taken : goal.returns-clause-taken
+returns-clause-taken c = λ value held more e. c.in_ok-attributes.ensures.taken value held.1.0 more e

@@ -1,0 +1,21 @@
+use Rattle.std.proofs.Common.{pos, ◌∙◌, ◌++◌, codes, refl, sym}
+use Rattle.wgsl_form_trees.proofs.Passing.{after}
+use Rattle.wgsl_form_trees.proofs.Numbers.{natural_32, natural_within, number_next, number_taken}
+use Rattle.wgsl_form_trees.proofs.number.read_u32.Goals as goal
+
+pub returns-in_err-n-clause-taken : goal.returns-in_err-n-clause-taken
+returns-in_err-n-clause-taken c = λ z held more e.
+    absurd (c.in_err-n.ensures.refused z (natural_32 z held) (codes "}" ++ more) refl
+    (number_next (pos z) c.args.before.now more c.in_ok-expect.ensures e))
+
+pub returns-in_err-expect-2-clause-taken : goal.returns-in_err-expect-2-clause-taken
+returns-in_err-expect-2-clause-taken c = λ z held more e.
+    absurd (c.in_err-expect-2.ensures more (number_taken (pos c.in_ok-n.n) (pos z) more
+    (natural_within z (natural_32 z held)) c.in_ok-n.ensures.read
+    c.in_ok-n.ensures.whole (number_next (pos z) c.args.before.now more c.in_ok-expect.ensures e)))
+
+pub returns-clause-taken : goal.returns-clause-taken
+returns-clause-taken c = λ z held more e.
+    after (codes "}") (sym c.in_ok-expect-2.ensures ∙ number_taken (pos c.in_ok-n.n) (pos z) more
+    (natural_within z (natural_32 z held)) c.in_ok-n.ensures.read
+    c.in_ok-n.ensures.whole (number_next (pos z) c.args.before.now more c.in_ok-expect.ensures e))
