@@ -49,7 +49,7 @@ def listed(heading, kinds, shown):
 def document(table):
     """The lists of the document."""
     def field(name, held):
-        return table.field(name, held).replace("Vec<Spanned<Attribute>>", "Attributes")
+        return "attributes" if name == "attributes" else table.field(name, held)
 
     return ("\n\n"
             + listed("Enums and their variants", table.of_form("enum"), table.variant)

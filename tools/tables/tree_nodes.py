@@ -172,7 +172,7 @@ def ghost_uses(module, names):
             lines.append(line)
             longer = name
         line = longer
-    return [f"ghost use Rattle.{module}.{{{line}}};" for line in [*lines, line]]
+    return [f"ghost use Rattle.{module}.{{{line}}};" for line in [*lines, line] if line]
 
 
 def use_lines(found):

@@ -3,7 +3,7 @@ use Rattle.std.proofs.Common.{◌≡◌, List, ◌∷◌, map, ap, ◌∙◌}
 use Rattle.std.specs.Option.{option_map}
 use Rattle.wgsl_model.specs.Trees.Attributed.{with_attributes}
 use Rattle.wgsl_model.specs.Trees.Statements as plain
-use Rattle.wgsl_model_names.specs.Names.{attributes_names, break_if_names, clauses_names, compound_names, continuing_names, maybe, maybe_continuing_names, node_names, statements_names}
+use Rattle.wgsl_model_names.specs.Names.{attributes_names, break_if_names, clauses_names, compound_names, continuing_names, loop_names, maybe, maybe_continuing_names, node_names, statements_names, switch_names}
 use Rattle.wgsl_model_minify.specs.Occurrences.{Occurrence, scope_start, scope_end}
 use Rattle.wgsl_span.specs.declared.Spanned.{Spanned}
 use Rattle.wgsl_tree_expression.specs.View.{expression_node_view}
@@ -18,7 +18,7 @@ use Rattle.wgsl_tree_statement.specs.declared.switch.SwitchStatement.{SwitchStat
 use Rattle.wgsl_tree_statement.specs.declared.statement.Statement.TheViews as layers
 use Rattle.wgsl_tree_statement.proofs.Views.{compound_statement_out, continuing_statement_out, loop_statement_out, switch_statement_out}
 use Rattle.wgsl_tree_names.specs.Found.{met_before}
-use Rattle.wgsl_tree_names.specs.Statements.{loop_statement_names, switch_statement_names}
+use Rattle.wgsl_tree_names.specs.Attributed.{attributed}
 
 abbrev attributes_before : List (Spanned Attribute) → List Occurrence → List Occurrence
 attributes_before items = met_before (attributes_names (attributes_view items))
@@ -34,23 +34,23 @@ pub compound_before : (s : CompoundStatement) (after : List Occurrence) →
 compound_before s after = ap (λ b. met_before (compound_names b) after) (compound_statement_out s)
 
 pub switch_before : (s : SwitchStatement) (after : List Occurrence) →
-    met_before (switch_statement_names (switch_statement_view s)) after
+    met_before (attributed switch_names (switch_statement_view s)) after
     ≡ attributes_before (layers.out-SwitchStatement s).attributes.items
     (met_before (node_names (expression_node_view (layers.out-SwitchStatement s).expression))
     (attributes_before (layers.out-SwitchStatement s).body_attributes.items
     (met_before (clauses_names (plain.clauses_of
     (map switch_clause_view (layers.out-SwitchStatement s).clauses.items))) after)))
-switch_before s after = ap (λ v. met_before (switch_statement_names v) after) (switch_statement_out s)
+switch_before s after = ap (λ v. met_before (attributed switch_names v) after) (switch_statement_out s)
 
 pub loop_before : (s : LoopStatement) (after : List Occurrence) →
-    met_before (loop_statement_names (loop_statement_view s)) after
+    met_before (attributed loop_names (loop_statement_view s)) after
     ≡ attributes_before (layers.out-LoopStatement s).attributes.items
     (opened_before (layers.out-LoopStatement s).body (met_before (maybe_continuing_names
     (plain.continuing_of (option_map continuing_statement_view (layers.out-LoopStatement s).continuing)))
     (scope_end ∷ after)))
 loop_before s after =
     let n = layers.out-LoopStatement s in
-    ap (λ v. met_before (loop_statement_names v) after)
+    ap (λ v. met_before (attributed loop_names v) after)
     (loop_statement_out s ∙ ap (λ b. with_attributes (attributes_view n.attributes.items)
     (plain.repeat b (plain.continuing_of (option_map continuing_statement_view n.continuing))))
     (compound_statement_out n.body))

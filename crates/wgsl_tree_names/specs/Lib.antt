@@ -1,3 +1,2 @@
 pub mod Found
-pub mod Statements
-pub mod Units
+pub mod Attributed

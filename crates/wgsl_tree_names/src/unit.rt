@@ -1,113 +1,21 @@
-//! Directives, declarations and modules.
+//! Modules, and what is declared in lists.
 
 ghost use Rattle.std.specs.Prelude.{◌≡◌, IfOk, map};
-ghost use Rattle.wgsl_model.specs.Trees.Attributed.{Attributed};
-ghost use Rattle.wgsl_model.specs.Trees.Spanned.{Spanned};
-ghost use Rattle.wgsl_model.specs.Trees.Units as plain;
 ghost use Rattle.wgsl_model_minify.specs.Occurrences.{occurrences};
-ghost use Rattle.wgsl_model_names.specs.Names.{directive_names, each, global_declared, global_names, member_names, parameter_declared, parameter_names, unit_names};
+ghost use Rattle.wgsl_model_names.specs.Names.{each, global_declared, parameter_declared};
+ghost use Rattle.wgsl_model_names.specs.Names.{unit_names};
 ghost use Rattle.wgsl_span.specs.View.{spanned_view};
 ghost use Rattle.wgsl_tree_names.specs.Found.{Collects, occurrence_view};
-ghost use Rattle.wgsl_tree_names.specs.Units.{attributed_function_names, structure_names, alias_names};
-ghost use Rattle.wgsl_tree_unit.specs.View.{function_view, global_declaration_view, global_directive_view, member_view, parameter_view, struct_view, type_alias_view, unit_view};
+ghost use Rattle.wgsl_tree_unit.specs.View.{global_declaration_view, parameter_view, unit_view};
 
 use crate::collected::{Collected, Occurrence};
 use crate::named::Named;
+use crate::unit_nodes::put_declared;
 use std::alloc::{AllocError, Global};
-use wgsl_tree_unit::{
-    FormalParameter, Function, GlobalDeclaration, GlobalDeclarationNode, GlobalDirective, Struct,
-    StructMemberNode, TranslationUnit, TypeAlias,
-};
-
-impl Named for GlobalDirective {
-    ghost Plain = { plain.GlobalDirective };
-
-    ghost view = { global_directive_view };
-
-    ghost names = { directive_names };
-
-    fn put_names<'t>(&'t self, found: &mut Collected<'t>) -> Result<(), AllocError> {
-        match self {
-            GlobalDirective::Diagnostic(inner) => inner.attributes.put_names(found),
-            GlobalDirective::Enable(inner) => inner.attributes.put_names(found),
-            GlobalDirective::Requires(inner) => inner.attributes.put_names(found),
-        }
-    }
-}
-
-impl Named for TypeAlias {
-    ghost Plain = { Attributed plain.TypeAlias };
-
-    ghost view = { type_alias_view };
-
-    ghost names = { alias_names };
-
-    fn put_names<'t>(&'t self, found: &mut Collected<'t>) -> Result<(), AllocError> {
-        self.ty.put_names(found)?;
-        self.attributes.put_names(found)
-    }
-}
-
-impl Named for StructMemberNode {
-    ghost Plain = { Spanned plain.StructMember };
-
-    ghost view = { spanned_view member_view };
-
-    ghost names = { member_names };
-
-    fn put_names<'t>(&'t self, found: &mut Collected<'t>) -> Result<(), AllocError> {
-        self.node().ty.put_names(found)?;
-        self.node().attributes.put_names(found)
-    }
-}
-
-impl Named for Struct {
-    ghost Plain = { Attributed plain.Struct };
-
-    ghost view = { struct_view };
-
-    ghost names = { structure_names };
-
-    fn put_names<'t>(&'t self, found: &mut Collected<'t>) -> Result<(), AllocError> {
-        self.members.put_names(found)?;
-        self.attributes.put_names(found)
-    }
-}
-
-impl Named for FormalParameter {
-    ghost Plain = { plain.FormalParameter };
-
-    ghost view = { parameter_view };
-
-    ghost names = { parameter_names };
-
-    fn put_names<'t>(&'t self, found: &mut Collected<'t>) -> Result<(), AllocError> {
-        self.ty.put_names(found)?;
-        self.attributes.put_names(found)
-    }
-}
-
-impl Named for Function {
-    ghost Plain = { Attributed plain.Function };
-
-    ghost view = { function_view };
-
-    ghost names = { attributed_function_names };
-
-    fn put_names<'t>(&'t self, found: &mut Collected<'t>) -> Result<(), AllocError> {
-        found.put(Occurrence::ScopeEnd)?;
-        self.body.put_names(found)?;
-        put_declared_parameters(&self.parameters, found)?;
-        found.put(Occurrence::ScopeStart)?;
-        self.return_type.put_names(found)?;
-        self.return_attributes.put_names(found)?;
-        self.parameters.put_names(found)?;
-        self.attributes.put_names(found)
-    }
-}
+use wgsl_tree_unit::{FormalParameter, GlobalDeclarationNode, TranslationUnit};
 
 /// Puts the declarations of parameters before what was collected.
-fn put_declared_parameters<'t>(
+pub(crate) fn put_declared_parameters<'t>(
     parameters: &'t Vec<FormalParameter>,
     found: &mut Collected<'t>,
 ) -> Result<(), AllocError>
@@ -118,43 +26,6 @@ fn put_declared_parameters<'t>(
         found.put(Occurrence::Declaration(parameters[i].ident.name()))?;
     }
     Ok(())
-}
-
-impl Named for GlobalDeclarationNode {
-    ghost Plain = { Spanned plain.GlobalDeclaration };
-
-    ghost view = { spanned_view global_declaration_view };
-
-    ghost names = { global_names };
-
-    fn put_names<'t>(&'t self, found: &mut Collected<'t>) -> Result<(), AllocError> {
-        match self.node() {
-            GlobalDeclaration::Void => Ok(()),
-            GlobalDeclaration::Declaration(inner) => inner.put_names(found),
-            GlobalDeclaration::TypeAlias(inner) => inner.put_names(found),
-            GlobalDeclaration::Struct(inner) => inner.put_names(found),
-            GlobalDeclaration::Function(inner) => inner.put_names(found),
-            GlobalDeclaration::ConstAssert(inner) => inner.put_names(found),
-        }
-    }
-}
-
-/// Puts what a declaration of a module declares before what was collected.
-fn put_declared<'t>(
-    node: &'t GlobalDeclarationNode,
-    found: &mut Collected<'t>,
-) -> Result<(), AllocError>
-    ensures { IfOk result (λ _. Collects
-        (global_declared (spanned_view global_declaration_view node.now)) found.old found.new) }
-{
-    let ident = match node.node() {
-        GlobalDeclaration::Declaration(inner) => &inner.ident,
-        GlobalDeclaration::TypeAlias(inner) => &inner.ident,
-        GlobalDeclaration::Struct(inner) => &inner.ident,
-        GlobalDeclaration::Function(inner) => &inner.ident,
-        GlobalDeclaration::Void | GlobalDeclaration::ConstAssert(_) => return Ok(()),
-    };
-    found.put(Occurrence::Declaration(ident.name()))
 }
 
 /// Puts what the declarations of a module declare before what was collected.

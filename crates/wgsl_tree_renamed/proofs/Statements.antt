@@ -48,11 +48,11 @@ module _ (f : Renaming) where
   else_renamed None = refl
   else_renamed (Some x) = refl
 
-  pub continuing_renamed : (o : Option plain.ContinuingStatement)
+  pub maybe_continuing_renamed : (o : Option plain.ContinuingStatement)
       → plain.continuing_of (option_map (changed_continuing (renaming f)) o)
       ≡ changed_maybe_continuing (renaming f) (plain.continuing_of o)
-  continuing_renamed None = refl
-  continuing_renamed (Some x) = refl
+  maybe_continuing_renamed None = refl
+  maybe_continuing_renamed (Some x) = refl
 
   pub part_renamed : (o : Option plain.StatementNode)
       → plain.maybe_statement (option_map (changed_node (renaming f)) o)

@@ -2,15 +2,17 @@
 #![tactic(auto)]
 
 mod attribute;
+mod attribute_nodes;
 mod chain;
 mod expression;
 mod ident;
 mod new_names;
-mod simple;
-mod statement;
+mod simple_nodes;
+mod statement_nodes;
 mod surrounding;
 mod traits;
 mod unit;
+mod unit_nodes;
 
 pub use new_names::NewNames;
 pub use unit::rename;

@@ -11,7 +11,8 @@ use Rattle.wgsl_tree_renamed.specs.Lefts.{all_around}
 use Rattle.wgsl_tree_renamed.specs.NewNames.{renaming_by}
 use Rattle.wgsl_tree_renamed.proofs.Chains.{one_less_around}
 use Rattle.wgsl_tree_renamed.proofs.Lists.{args_renamed, item_more, nodes_renamed}
-use Rattle.wgsl_tree_renamed.proofs.Views.{argument_out, argument_view, call_out, made_call_view, made_type_view, parenthesized_out, parenthesized_view, type_out, unary_out, unary_view}
+use Rattle.wgsl_tree_expression.proofs.Views.{call_view_out, call_view_roll, type_view_out, type_view_roll}
+use Rattle.wgsl_tree_renamed.proofs.Views.{argument_out, argument_view, parenthesized_out, parenthesized_view, unary_out, unary_view}
 use Rattle.wgsl_tree_renamed.proofs.+expressions.Goals as goal
 
 pub chain::renamed_node-chain-preserved : goal.chain::renamed_node-chain-preserved
@@ -68,9 +69,9 @@ expression::renamed_call-returns t c =
     let arguments = nodes_renamed f (out-FunctionCall c.args.call.now).arguments.items _
     (c.arguments.invariant ∙ ap (λ xs. map (renamed_node f) (map expression_node_view xs))
     (take_all _ c.deref-argument-items.result.now c.arguments-test.false ∙ c.deref-argument-items.ensures.value)) in
-    made_call_view c.in_ok-ty.ty c.arguments.arguments
+    call_view_roll (record { ty = c.in_ok-ty.ty; arguments = c.arguments.arguments })
     ∙ (λ i. plain.call (c.in_ok-ty.ensures i) (arguments i))
-    ∙ sym (ap (renamed_call f) (call_out c.args.call.now))
+    ∙ sym (ap (renamed_call f) (call_view_out c.args.call.now))
 
 pub expression::renamed_type-arguments-preserved : goal.expression::renamed_type-arguments-preserved
 expression::renamed_type-arguments-preserved t c =
@@ -88,7 +89,7 @@ expression::renamed_type-returns t c =
     let arguments = args_renamed f c.in-Some.template_args.items _
     (c.arguments.invariant ∙ ap (λ xs. map (renamed_node f) (map template_arg_view xs))
     (take_all _ c.deref-argument-items.result.now c.arguments-test.false ∙ c.deref-argument-items.ensures.value)) in
-    made_type_view c.in_ok-ident.ident (Some c.arguments.arguments)
+    type_view_roll c.in_ok-ident.ident (Some c.arguments.arguments)
     ∙ (λ i. plain.type_expression (c.in_ok-ident.ensures i) (plain.template (arguments i)))
-    ∙ sym (ap (renamed_type f) (type_out c.args.ty.now ∙ ap (λ o. plain.type_expression
+    ∙ sym (ap (renamed_type f) (type_view_out c.args.ty.now ∙ ap (λ o. plain.type_expression
     (ident_name (out-TypeExpression c.args.ty.now).ident) (template_args_view o)) c.in-Some.is))

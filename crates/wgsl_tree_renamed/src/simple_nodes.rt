@@ -1,6 +1,5 @@
-//! Declarations of values, and statements in which there are no others.
+//! Written by tools/tables/renamed_trees.py from crates/wgsl_model/nodes: copies with new names.
 
-ghost use Rattle.std.specs.Prelude.{◌≡◌, IfOk};
 ghost use Rattle.wgsl_model.specs.Trees.Attributed.{Attributed};
 ghost use Rattle.wgsl_model.specs.Trees.Statements as plain;
 ghost use Rattle.wgsl_model_names.specs.Renamed.{renamed_assert, renamed_attributed};
@@ -41,17 +40,80 @@ impl Rename for Declaration {
     }
 }
 
-impl Rename for ConstAssert {
-    ghost Plain = { Attributed plain.ConstAssert };
+impl Rename for AssignmentStatement {
+    ghost Plain = { plain.Statement };
 
-    ghost view = { assert_view };
+    ghost view = { λ n. plain.as_statement plain.assignment (assignment_view n) };
 
-    ghost changed = { λ f. renamed_attributed f (renamed_assert f) };
+    ghost changed = { λ f. plain.changed_statement (renaming f) };
 
     fn renamed(&self, names: &NewNames, alloc: Global) -> Result<Self, AllocError> {
-        Ok(ConstAssert {
+        Ok(AssignmentStatement {
+            attributes: renamed_attributes(&self.attributes, names, alloc)?,
+            operator: self.operator,
+            lhs: self.lhs.renamed(names, alloc)?,
+            rhs: self.rhs.renamed(names, alloc)?,
+        })
+    }
+}
+
+impl Rename for IncrementStatement {
+    ghost Plain = { plain.Statement };
+
+    ghost view = { λ n. plain.as_statement plain.increment (increment_view n) };
+
+    ghost changed = { λ f. plain.changed_statement (renaming f) };
+
+    fn renamed(&self, names: &NewNames, alloc: Global) -> Result<Self, AllocError> {
+        Ok(IncrementStatement {
             attributes: renamed_attributes(&self.attributes, names, alloc)?,
             expression: self.expression.renamed(names, alloc)?,
+        })
+    }
+}
+
+impl Rename for DecrementStatement {
+    ghost Plain = { plain.Statement };
+
+    ghost view = { λ n. plain.as_statement plain.decrement (decrement_view n) };
+
+    ghost changed = { λ f. plain.changed_statement (renaming f) };
+
+    fn renamed(&self, names: &NewNames, alloc: Global) -> Result<Self, AllocError> {
+        Ok(DecrementStatement {
+            attributes: renamed_attributes(&self.attributes, names, alloc)?,
+            expression: self.expression.renamed(names, alloc)?,
+        })
+    }
+}
+
+impl Rename for CaseSelector {
+    ghost Plain = { plain.CaseSelector };
+
+    ghost view = { selector_view };
+
+    ghost changed = { renamed_selector };
+
+    fn renamed(&self, names: &NewNames, alloc: Global) -> Result<Self, AllocError> {
+        match self {
+            CaseSelector::Default => Ok(CaseSelector::Default),
+            CaseSelector::Expression(inner) => Ok(CaseSelector::Expression(inner.renamed(
+                names, alloc,
+            )?)),
+        }
+    }
+}
+
+impl Rename for BreakStatement {
+    ghost Plain = { plain.Statement };
+
+    ghost view = { break_view };
+
+    ghost changed = { λ f. plain.changed_statement (renaming f) };
+
+    fn renamed(&self, names: &NewNames, alloc: Global) -> Result<Self, AllocError> {
+        Ok(BreakStatement {
+            attributes: renamed_attributes(&self.attributes, names, alloc)?,
         })
     }
 }
@@ -71,84 +133,6 @@ impl Rename for BreakIfStatement {
     }
 }
 
-impl Rename for CaseSelector {
-    ghost Plain = { plain.CaseSelector };
-
-    ghost view = { selector_view };
-
-    ghost changed = { renamed_selector };
-
-    fn renamed(&self, names: &NewNames, alloc: Global) -> Result<Self, AllocError> {
-        match self {
-            CaseSelector::Default => Ok(CaseSelector::Default),
-            CaseSelector::Expression(inner) => {
-                Ok(CaseSelector::Expression(inner.renamed(names, alloc)?))
-            }
-        }
-    }
-}
-
-impl Rename for AssignmentStatement {
-    ghost Plain = { plain.Statement };
-
-    ghost view = { λ s. plain.as_statement plain.assignment (assignment_view s) };
-
-    ghost changed = { λ f. plain.changed_statement (renaming f) };
-
-    fn renamed(&self, names: &NewNames, alloc: Global) -> Result<Self, AllocError> {
-        Ok(AssignmentStatement {
-            attributes: renamed_attributes(&self.attributes, names, alloc)?,
-            operator: self.operator,
-            lhs: self.lhs.renamed(names, alloc)?,
-            rhs: self.rhs.renamed(names, alloc)?,
-        })
-    }
-}
-
-impl Rename for IncrementStatement {
-    ghost Plain = { plain.Statement };
-
-    ghost view = { λ s. plain.as_statement plain.increment (increment_view s) };
-
-    ghost changed = { λ f. plain.changed_statement (renaming f) };
-
-    fn renamed(&self, names: &NewNames, alloc: Global) -> Result<Self, AllocError> {
-        Ok(IncrementStatement {
-            attributes: renamed_attributes(&self.attributes, names, alloc)?,
-            expression: self.expression.renamed(names, alloc)?,
-        })
-    }
-}
-
-impl Rename for DecrementStatement {
-    ghost Plain = { plain.Statement };
-
-    ghost view = { λ s. plain.as_statement plain.decrement (decrement_view s) };
-
-    ghost changed = { λ f. plain.changed_statement (renaming f) };
-
-    fn renamed(&self, names: &NewNames, alloc: Global) -> Result<Self, AllocError> {
-        Ok(DecrementStatement {
-            attributes: renamed_attributes(&self.attributes, names, alloc)?,
-            expression: self.expression.renamed(names, alloc)?,
-        })
-    }
-}
-
-impl Rename for BreakStatement {
-    ghost Plain = { plain.Statement };
-
-    ghost view = { break_view };
-
-    ghost changed = { λ f. plain.changed_statement (renaming f) };
-
-    fn renamed(&self, names: &NewNames, alloc: Global) -> Result<Self, AllocError> {
-        Ok(BreakStatement {
-            attributes: renamed_attributes(&self.attributes, names, alloc)?,
-        })
-    }
-}
-
 impl Rename for ContinueStatement {
     ghost Plain = { plain.Statement };
 
@@ -159,6 +143,21 @@ impl Rename for ContinueStatement {
     fn renamed(&self, names: &NewNames, alloc: Global) -> Result<Self, AllocError> {
         Ok(ContinueStatement {
             attributes: renamed_attributes(&self.attributes, names, alloc)?,
+        })
+    }
+}
+
+impl Rename for ReturnStatement {
+    ghost Plain = { plain.Statement };
+
+    ghost view = { λ n. plain.as_statement plain.return_statement (return_view n) };
+
+    ghost changed = { λ f. plain.changed_statement (renaming f) };
+
+    fn renamed(&self, names: &NewNames, alloc: Global) -> Result<Self, AllocError> {
+        Ok(ReturnStatement {
+            attributes: renamed_attributes(&self.attributes, names, alloc)?,
+            expression: self.expression.renamed(names, alloc)?,
         })
     }
 }
@@ -177,25 +176,10 @@ impl Rename for DiscardStatement {
     }
 }
 
-impl Rename for ReturnStatement {
-    ghost Plain = { plain.Statement };
-
-    ghost view = { λ s. plain.as_statement plain.return_statement (return_view s) };
-
-    ghost changed = { λ f. plain.changed_statement (renaming f) };
-
-    fn renamed(&self, names: &NewNames, alloc: Global) -> Result<Self, AllocError> {
-        Ok(ReturnStatement {
-            attributes: renamed_attributes(&self.attributes, names, alloc)?,
-            expression: self.expression.renamed(names, alloc)?,
-        })
-    }
-}
-
 impl Rename for FunctionCallStatement {
     ghost Plain = { plain.Statement };
 
-    ghost view = { λ s. plain.as_statement plain.function_call_statement (call_statement_view s) };
+    ghost view = { λ n. plain.as_statement plain.function_call_statement (call_statement_view n) };
 
     ghost changed = { λ f. plain.changed_statement (renaming f) };
 
@@ -203,6 +187,21 @@ impl Rename for FunctionCallStatement {
         Ok(FunctionCallStatement {
             attributes: renamed_attributes(&self.attributes, names, alloc)?,
             call: renamed_call(&self.call, names, alloc)?,
+        })
+    }
+}
+
+impl Rename for ConstAssert {
+    ghost Plain = { Attributed plain.ConstAssert };
+
+    ghost view = { assert_view };
+
+    ghost changed = { λ f. renamed_attributed f (renamed_assert f) };
+
+    fn renamed(&self, names: &NewNames, alloc: Global) -> Result<Self, AllocError> {
+        Ok(ConstAssert {
+            attributes: renamed_attributes(&self.attributes, names, alloc)?,
+            expression: self.expression.renamed(names, alloc)?,
         })
     }
 }

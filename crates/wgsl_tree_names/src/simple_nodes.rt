@@ -1,12 +1,18 @@
-//! Declarations of values, and statements that hold no others.
+//! Written by tools/tables/collected_names.py from crates/wgsl_model/nodes: names of nodes.
 
 ghost use Rattle.wgsl_model.specs.Trees.Attributed.{Attributed};
 ghost use Rattle.wgsl_model.specs.Trees.NamedValues as plain_value;
 ghost use Rattle.wgsl_model.specs.Trees.Statements as plain;
-ghost use Rattle.wgsl_model_names.specs.Names.{break_if_names, kind_names, mode_names, selector_names, space_names};
-ghost use Rattle.wgsl_tree_names.specs.Statements.{assert_names, assignment_names, declaration_names, decrement_names, increment_names, call_statement_names, return_names};
-ghost use Rattle.wgsl_tree_simple.specs.View.{assert_view, assignment_view, break_if_view, call_statement_view, declaration_kind_view, declaration_view, decrement_view, increment_view, return_view, selector_view};
-ghost use Rattle.wgsl_tree_words.specs.View.{access_mode_view, address_space_view};
+ghost use Rattle.wgsl_model_names.specs.Names.{maybe, node_names, call_names, space_names};
+ghost use Rattle.wgsl_model_names.specs.Names.{mode_names, kind_names, value_names, selector_names};
+ghost use Rattle.wgsl_model_names.specs.Names.{break_if_names};
+ghost use Rattle.wgsl_model_names.specs.Scopes.{◌then◌};
+ghost use Rattle.wgsl_tree_simple.specs.View.{assert_view, assignment_view, break_if_view};
+ghost use Rattle.wgsl_tree_simple.specs.View.{call_statement_view, declaration_kind_view};
+ghost use Rattle.wgsl_tree_simple.specs.View.{declaration_view, decrement_view, increment_view};
+ghost use Rattle.wgsl_tree_simple.specs.View.{return_view, selector_view};
+ghost use Rattle.wgsl_tree_words.specs.View.{address_space_view, access_mode_view};
+ghost use Rattle.wgsl_tree_names.specs.Attributed.{attributed};
 
 use crate::collected::{Collected, Occurrence};
 use crate::expression::put_call;
@@ -52,6 +58,21 @@ impl Named for AccessMode {
     }
 }
 
+impl Named for Declaration {
+    ghost Plain = { Attributed plain.Declaration };
+
+    ghost view = { declaration_view };
+
+    ghost names = { attributed value_names };
+
+    fn put_names<'t>(&'t self, found: &mut Collected<'t>) -> Result<(), AllocError> {
+        self.initializer.put_names(found)?;
+        self.ty.put_names(found)?;
+        self.kind.put_names(found)?;
+        self.attributes.put_names(found)
+    }
+}
+
 impl Named for DeclarationKind {
     ghost Plain = { plain.DeclarationKind };
 
@@ -73,28 +94,12 @@ impl Named for DeclarationKind {
     }
 }
 
-/// The names in a declaration, but the one that it declares.
-impl Named for Declaration {
-    ghost Plain = { Attributed plain.Declaration };
-
-    ghost view = { declaration_view };
-
-    ghost names = { declaration_names };
-
-    fn put_names<'t>(&'t self, found: &mut Collected<'t>) -> Result<(), AllocError> {
-        self.initializer.put_names(found)?;
-        self.ty.put_names(found)?;
-        self.kind.put_names(found)?;
-        self.attributes.put_names(found)
-    }
-}
-
 impl Named for AssignmentStatement {
     ghost Plain = { Attributed plain.AssignmentStatement };
 
     ghost view = { assignment_view };
 
-    ghost names = { assignment_names };
+    ghost names = { attributed (λ a. node_names a.lhs then node_names a.rhs) };
 
     fn put_names<'t>(&'t self, found: &mut Collected<'t>) -> Result<(), AllocError> {
         self.rhs.put_names(found)?;
@@ -108,7 +113,7 @@ impl Named for IncrementStatement {
 
     ghost view = { increment_view };
 
-    ghost names = { increment_names };
+    ghost names = { attributed (λ s. node_names s.expression) };
 
     fn put_names<'t>(&'t self, found: &mut Collected<'t>) -> Result<(), AllocError> {
         self.expression.put_names(found)?;
@@ -121,7 +126,7 @@ impl Named for DecrementStatement {
 
     ghost view = { decrement_view };
 
-    ghost names = { decrement_names };
+    ghost names = { attributed (λ s. node_names s.expression) };
 
     fn put_names<'t>(&'t self, found: &mut Collected<'t>) -> Result<(), AllocError> {
         self.expression.put_names(found)?;
@@ -138,8 +143,8 @@ impl Named for CaseSelector {
 
     fn put_names<'t>(&'t self, found: &mut Collected<'t>) -> Result<(), AllocError> {
         match self {
+            CaseSelector::Expression(inner) => inner.put_names(found),
             CaseSelector::Default => Ok(()),
-            CaseSelector::Expression(expression) => expression.put_names(found),
         }
     }
 }
@@ -162,7 +167,7 @@ impl Named for ReturnStatement {
 
     ghost view = { return_view };
 
-    ghost names = { return_names };
+    ghost names = { attributed (λ s. maybe node_names s.expression) };
 
     fn put_names<'t>(&'t self, found: &mut Collected<'t>) -> Result<(), AllocError> {
         self.expression.put_names(found)?;
@@ -175,7 +180,7 @@ impl Named for FunctionCallStatement {
 
     ghost view = { call_statement_view };
 
-    ghost names = { call_statement_names };
+    ghost names = { attributed (λ s. call_names s.call) };
 
     fn put_names<'t>(&'t self, found: &mut Collected<'t>) -> Result<(), AllocError> {
         put_call(&self.call, found)?;
@@ -188,7 +193,7 @@ impl Named for ConstAssert {
 
     ghost view = { assert_view };
 
-    ghost names = { assert_names };
+    ghost names = { attributed (λ s. node_names s.expression) };
 
     fn put_names<'t>(&'t self, found: &mut Collected<'t>) -> Result<(), AllocError> {
         self.expression.put_names(found)?;

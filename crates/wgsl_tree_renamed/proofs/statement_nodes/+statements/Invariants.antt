@@ -1,8 +1,9 @@
+-- Written by tools/tables/renamed_trees.py from crates/wgsl_model/nodes.
 use Rattle.std.proofs.Common.{◌≡◌, map, take}
 use Rattle.wgsl_model.specs.Trees.Statements.{changed_else_if_clause, changed_node, changed_switch_clause}
 use Rattle.wgsl_tree_statement.specs.View.{else_if_clause_view, statement_node_view, switch_clause_view}
 use Rattle.wgsl_tree_renamed.specs.NewNames.{change_by}
-use Rattle.wgsl_tree_renamed.proofs.statement.+statements.Given as goal
+use Rattle.wgsl_tree_renamed.proofs.statement_nodes.+statements.Given as goal
 
 abbrev pub invariant-renamed_statements-nodes : goal.invariant-renamed_statements-nodes
 invariant-renamed_statements-nodes l = map statement_node_view l.copies.items

@@ -1,7 +1,7 @@
-//! Attributes.
+//! Written by tools/tables/collected_names.py from crates/wgsl_model/nodes: names of nodes.
 
-ghost use Rattle.wgsl_model.specs.Trees.Attributes as plain;
 ghost use Rattle.wgsl_model.specs.Trees.Spanned.{Spanned};
+ghost use Rattle.wgsl_model.specs.Trees.Attributes as plain;
 ghost use Rattle.wgsl_model_names.specs.Names.{spanned_attribute_names};
 ghost use Rattle.wgsl_span.specs.View.{spanned_view};
 ghost use Rattle.wgsl_tree_attribute.specs.View.{attribute_view};
@@ -20,13 +20,13 @@ impl Named for AttributeNode {
 
     fn put_names<'t>(&'t self, found: &mut Collected<'t>) -> Result<(), AllocError> {
         match self.node() {
-            Attribute::Align(argument)
-            | Attribute::Binding(argument)
-            | Attribute::BlendSrc(argument)
-            | Attribute::Group(argument)
-            | Attribute::Id(argument)
-            | Attribute::Location(argument)
-            | Attribute::Size(argument) => argument.put_names(found),
+            Attribute::Align(inner)
+            | Attribute::Binding(inner)
+            | Attribute::BlendSrc(inner)
+            | Attribute::Group(inner)
+            | Attribute::Id(inner)
+            | Attribute::Location(inner)
+            | Attribute::Size(inner) => inner.put_names(found),
             Attribute::WorkgroupSize(inner) => {
                 inner.z.put_names(found)?;
                 inner.y.put_names(found)?;
@@ -36,7 +36,6 @@ impl Named for AttributeNode {
                 inner.variants.put_names(found)?;
                 found.put(Occurrence::Use(inner.ident.name()))
             }
-            // What these have is no name of the module.
             Attribute::If(_)
             | Attribute::Elif(_)
             | Attribute::Builtin(_)

@@ -1,7 +1,8 @@
+-- Written by tools/tables/renamed_trees.py from crates/wgsl_model/nodes.
 use Rattle.std.proofs.Common.{ap}
 use Rattle.wgsl_model.specs.Trees.Attributed.{Attributed, with_attributes}
 use Rattle.wgsl_model.specs.Trees.Units as plain
-use Rattle.wgsl_tree_renamed.proofs.unit.DiagnosticDirectiveRename.renamed.Goals as goal
+use Rattle.wgsl_tree_renamed.proofs.unit_nodes.DiagnosticDirectiveRename.renamed.Goals as goal
 
 pub returns : goal.returns
 returns c =
