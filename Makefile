@@ -10,7 +10,7 @@ libraries = $(DESTDIR)$(PREFIX)/lib
 
 help:
 	@echo "make demo       formats a shader with wgsltidy, and prints it with wgslfmt, without proofs"
-	@echo "make build      proves wgsltidy, wgslfmt and what they depend on, and puts them into build/"
+	@echo "make build      proves the three programs and what they depend on, and puts them into build/"
 	@echo "make lib        proves the library for C and Rust, build/libwgsl.a"
 	@echo "make install    installs the programs, their man pages, and the library if it is built, below"
 	@echo "                PREFIX, which is $(PREFIX)"
@@ -44,9 +44,9 @@ tables:
 # body has to be one that can be applied; each crate has to pass rt ci, and each wrong body has to
 # be rejected. Beside the last of the wrong bodies, make programs runs: each shader of examples/ has
 # to print as its file in examples/printed/, and that file as itself; the crates that hold tests
-# alone are run; so are the built programs, on made texts and on deep nests, and wgsltidy on its
-# rows and on real files; each allocation of each call, of both programs as filters and of wgsltidy
-# over files fails in turn; the rows are run over the library and the programs; the library is
+# alone are run; so are the built programs, on made texts and on deep nests, wgsltidy on its rows and
+# on real files, and wgslmin on real files; each allocation of each call, of the programs as filters
+# and of wgsltidy and wgslmin over files fails in turn; the rows are run over the library and the programs; the library is
 # called from C, and from Rust if there is cargo; and the archive of `make dist` is made twice,
 # unpacked, and used without the kit. ANEW=--anew takes nothing from earlier runs.
 test:
@@ -77,6 +77,8 @@ programs:
 	    || { echo "Failed: tools/tidy_texts, as the lines above say."; exit 1; }
 	@tools/files_test --program crates/wgsltidy/out/wgsltidy \
 	    || { echo "Failed: tools/files_test, as the lines above say."; exit 1; }
+	@tools/minify_test --program crates/wgslmin/out/wgslmin \
+	    || { echo "Failed: tools/minify_test, as the lines above say."; exit 1; }
 	@tools/refused_memory || { echo "Failed: tools/refused_memory, as above."; exit 1; }
 	@tools/build lib || { echo "Failed: tools/build lib, as above."; exit 1; }
 	@tools/rows || { echo "Failed: tools/rows, as the lines above say."; exit 1; }
@@ -85,12 +87,12 @@ programs:
 	@tools/dist_test || { echo "Failed: tools/dist_test, as above."; exit 1; }
 
 install:
-	@for program in wgsltidy wgslfmt; do \
+	@for program in wgsltidy wgslfmt wgslmin; do \
 	    test -x build/$$program \
 	        || { echo "build/$$program is not there: run \`make build\` first."; exit 1; }; \
 	done
 	@install -d "$(bin)" "$(man)"
-	@for program in wgsltidy wgslfmt; do \
+	@for program in wgsltidy wgslfmt wgslmin; do \
 	    install -m 755 build/$$program "$(bin)/$$program" \
 	        && install -m 644 man/$$program.1 "$(man)/$$program.1" || exit 1; \
 	    echo "Installed $(bin)/$$program and $(man)/$$program.1."; \
@@ -104,7 +106,9 @@ install:
 	fi
 
 uninstall:
-	@rm -f "$(bin)/wgsltidy" "$(man)/wgsltidy.1" "$(bin)/wgslfmt" "$(man)/wgslfmt.1"
+	@for program in wgsltidy wgslfmt wgslmin; do \
+	    rm -f "$(bin)/$$program" "$(man)/$$program.1"; \
+	done
 	@rm -f "$(headers)/wgsl.h" "$(libraries)/libwgsl.a" "$(libraries)/pkgconfig/wgsl.pc"
 
 dist:

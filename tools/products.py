@@ -50,6 +50,6 @@ class Product(NamedTuple):
 
 # each by the word that tools/build is given
 PRODUCTS = {
-    "": Product({"wgslfmt": "wgslfmt", "wgsltidy": "wgsltidy"}),
+    "": Product({"wgslfmt": "wgslfmt", "wgslmin": "wgslmin", "wgsltidy": "wgsltidy"}),
     "lib": Product({"wgsl_c": "libwgsl.a"}),
 }

@@ -51,6 +51,17 @@ impl<'a, R: Files + AllocGlobal + Clone + Drop> Store for HostStore<'a, R> {
     fn replace(&mut self, alloc: Global, path: &str, bytes: &[u8]) -> Result<(), StoreError> {
         Ok(replace_file(self.rt, alloc, path, bytes)?)
     }
+
+    /// What is there has to be a regular file or a link to one: a device is refused. A link that
+    /// leads to no file becomes the new one.
+    fn write(&mut self, alloc: Global, path: &str, bytes: &[u8]) -> Result<(), StoreError> {
+        match std::fs::metadata(self.rt, path) {
+            Err(error) if error.kind() == ErrorKind::NotFound => {
+                Ok(create_file(self.rt, alloc, path, bytes)?)
+            }
+            _ => self.replace(alloc, path, bytes),
+        }
+    }
 }
 
 /// The folder of a path, and the name in it.
@@ -70,12 +81,30 @@ fn replace_file<R: Files>(rt: &R, alloc: Global, path: &str, bytes: &[u8]) -> io
     let target = rt.canonicalize(alloc, path)?;
     let old = writable(rt, target.as_str())?;
     let (name, file) = create_beside(rt, alloc, target.as_str())?;
-    let renamed = match fill(rt, file, name.as_str(), &old, bytes) {
-        Ok(()) => std::fs::rename(rt, name.as_str(), target.as_str()),
+    let filled = fill(rt, file, name.as_str(), Some(&old), bytes);
+    rename_filled(rt, filled, name.as_str(), target.as_str())
+}
+
+/// Makes a file with these bytes at a path where there is none.
+fn create_file<R: Files>(rt: &R, alloc: Global, path: &str, bytes: &[u8]) -> io::Result<()> {
+    let (name, file) = create_beside(rt, alloc, path)?;
+    let filled = fill(rt, file, name.as_str(), None, bytes);
+    rename_filled(rt, filled, name.as_str(), path)
+}
+
+/// Renames a new file to a path if it was filled, and removes it if that fails.
+fn rename_filled<R: Files>(
+    rt: &R,
+    filled: io::Result<()>,
+    name: &str,
+    path: &str,
+) -> io::Result<()> {
+    let renamed = match filled {
+        Ok(()) => std::fs::rename(rt, name, path),
         Err(error) => Err(error),
     };
     if renamed.is_err() {
-        let _ = std::fs::remove_file(rt, name.as_str());
+        let _ = std::fs::remove_file(rt, name);
     }
     renamed
 }
@@ -104,20 +133,22 @@ fn create_beside<R: Files>(rt: &R, alloc: Global, path: &str) -> io::Result<(Str
     Err(io::Error::from(ErrorKind::AlreadyExists))
 }
 
-/// Gives a new file the owner and the permissions of the old one before the bytes, and flushes it
-/// to the disk.
+/// Gives a new file the owner and the permissions of the old one, if there is one, before the
+/// bytes, and flushes it to the disk.
 fn fill<R: Files>(
     rt: &R,
     mut file: R::File,
     name: &str,
-    old: &Metadata,
+    old: Option<&Metadata>,
     bytes: &[u8],
 ) -> io::Result<()> {
-    let new = file.metadata()?;
-    if new.uid() != old.uid() || new.gid() != old.gid() {
-        chown(rt, name, Some(old.uid()), Some(old.gid()))?;
+    if let Some(old) = old {
+        let new = file.metadata()?;
+        if new.uid() != old.uid() || new.gid() != old.gid() {
+            chown(rt, name, Some(old.uid()), Some(old.gid()))?;
+        }
+        file.set_permissions(old.permissions())?;
     }
-    file.set_permissions(old.permissions())?;
     file.write_all(bytes)?;
     file.sync_all()
 }

@@ -60,6 +60,17 @@ impl Store for MemoryStore {
         // It fails only if an allocation fails.
         ensures memory { IfErr result (λ e. e ≡ StoreError.OutOfMemory) }
     {
+        self.write(alloc, path, bytes)
+    }
+
+    fn write(&mut self, alloc: Global, path: &str, bytes: &[u8]) -> Result<(), StoreError>
+        ensures ok { OnOk result (Replaced (files_of self.old.files) (files_of self.new.files)
+            path.now bytes.now) }
+        ensures err { OnErr result (Same (files_of self.old.files) (files_of self.new.files)) }
+
+        // It fails only if an allocation fails.
+        ensures memory { IfErr result (λ e. e ≡ StoreError.OutOfMemory) }
+    {
         let kept = Vec::from_slice(alloc, bytes)?;
         self.files.insert(String::from_str(alloc, path)?, kept)?;
         Ok(())

@@ -74,4 +74,10 @@ pub trait Store {
         ensures ok { OnOk result (Replaced (files self.old) (files self.new) path.now bytes.now) }
         ensures missing { IfErr result (λ e. IsMissing (files self.old) path.now e) }
         ensures err { OnErr result (Same (files self.old) (files self.new)) };
+
+    /// Puts these bytes at a path: into a new file, or in place of what the file there has. An
+    /// `Err` changes nothing.
+    fn write(&mut self, alloc: Global, path: &str, bytes: &[u8]) -> Result<(), StoreError>
+        ensures ok { OnOk result (Replaced (files self.old) (files self.new) path.now bytes.now) }
+        ensures err { OnErr result (Same (files self.old) (files self.new)) };
 }

@@ -16,7 +16,8 @@ use Rattle.wgsl_format_files.specs.Inputs.{AreInputsOf}
 use Rattle.wgsl_format_files.specs.Configs.{BecomesBy}
 use Rattle.wgsl_format_files.specs.Runs.{state, Runs}
 use Rattle.wgsl_format_files.specs.Tidy.{Refuses}
-use Rattle.wgsl_format_files.specs.Start.{World, world, Says, Tells, IsHint, usage_text, memory_text, is_filter, name_of, IsRunOf, IsRequestRun, IsStart}
+use Rattle.wgsl_program.specs.World.{World, world, Says, Tells}
+use Rattle.wgsl_format_files.specs.Start.{IsHint, usage_text, memory_text, is_filter, name_of, IsRunOf, IsRequestRun, IsStart}
 
 -- a run of the filter, by what the output holds
 pub known_runs : {Output : Type 0} (Writes : List ℕ → ProcessOutput → Type 0) (IsMadeOf : List ℕ

@@ -1,5 +1,4 @@
 pub mod Configs
-pub mod Written
 pub mod Runs
 pub mod Others
 pub mod Refusals

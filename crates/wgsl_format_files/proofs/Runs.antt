@@ -12,8 +12,8 @@ use Rattle.wgsl_format_files.specs.Events.{status_of, shown_by, told_of, is_chan
 use Rattle.wgsl_format_files.specs.declared.inputs.Input.{Input}
 use Rattle.wgsl_format_files.specs.Inputs.{input_view, name_in}
 use Rattle.wgsl_format_files.specs.Runs.{State, Came, ComesOf, ComesOfAll, WroteMore, IsStatus, Runs, highest, count_of, shown_all, told_all, summary}
-use Rattle.wgsl_format_files.specs.Written.{Wrote}
-use Rattle.wgsl_format_files.proofs.Written.{wrote_then, wrote_no_more, wrote_where}
+use Rattle.wgsl_program.specs.Written.{Wrote}
+use Rattle.wgsl_program.proofs.Written.{wrote_then, wrote_no_more, wrote_where}
 
 -- more is written after a text
 pub wrote_more : (whole more : Bool) (first second : List ℕ) (a b c : Option (List ℕ))

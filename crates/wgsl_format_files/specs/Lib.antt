@@ -1,7 +1,6 @@
 pub mod Configs
 pub mod Events
 pub mod Files
-pub mod Written
 pub mod Inputs
 pub mod Runs
 pub mod Tidy

@@ -11,7 +11,7 @@ use Rattle.wgsl_format_files.specs.declared.event.Event.{Event}
 use Rattle.wgsl_format_files.specs.Events.{status_of, is_changed, is_failed, shown_by, told_of, one_if}
 use Rattle.wgsl_format_files.specs.Files.{ComesOfFile, ComesOfInput}
 use Rattle.wgsl_format_files.specs.Inputs.{name_in}
-use Rattle.wgsl_format_files.specs.Written.{Wrote}
+use Rattle.wgsl_program.specs.Written.{Wrote}
 
 -- the files of a store, and what a reader has to give where that is known
 pub record State : Type 0 where

@@ -2,11 +2,11 @@
 
 ghost use Rattle.std.specs.Prelude.{◌++◌};
 ghost use Rattle.wgsl_format_files.specs.Events.{shown_by, told_of};
-ghost use Rattle.wgsl_format_files.specs.Written.{Wrote};
+ghost use Rattle.wgsl_program.specs.Written.{Wrote};
 
 use crate::event::Event;
 use std::io::Write;
-use wgsl_format::send;
+use wgsl_program::put;
 
 /// Writes what comes of the file of this name: what is shown of it to the output, the message to
 /// the errors. Returns whether all of it was written.
@@ -49,17 +49,4 @@ fn put_both<W: Write>(writer: &mut W, first: &[u8], second: &[u8]) -> bool
         return false;
     }
     put(writer, second)
-}
-
-/// Writes a text, and returns whether all of it was written.
-pub fn put<W: Write>(writer: &mut W, text: &[u8]) -> bool
-    ensures { Wrote result text.now (W.contents writer.old) (W.contents writer.new) }
-{
-    if text.is_empty() {
-        return true;
-    }
-    match send(writer, text) {
-        Ok(()) => true,
-        Err(_) => false,
-    }
 }

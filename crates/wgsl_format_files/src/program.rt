@@ -3,21 +3,20 @@
 ghost use Rattle.std.specs.Prelude.{◌≡◌, ◌⊎◌, Option, map, string_bytes, IfOk};
 ghost use Rattle.std.specs.Option.{option_copied};
 ghost use Rattle.wgsl_command.specs.declared.options.OptionName.{OptionName};
-ghost use Rattle.wgsl_files.specs.Statuses.{code_of};
 ghost use Rattle.wgsl_command.specs.Commands.{command_of};
 ghost use Rattle.wgsl_command.specs.View.{request_view, usage_view};
 ghost use Rattle.wgsl_format_files.specs.Inputs.{input_view};
 ghost use Rattle.wgsl_format_files.specs.Configs.{BecomesBy};
 ghost use Rattle.wgsl_format_files.specs.Runs.{Runs, state};
 ghost use Rattle.wgsl_format_files.specs.Tidy.{Refuses};
-ghost use Rattle.wgsl_format_files.specs.Start.{world, is_filter, name_of};
+ghost use Rattle.wgsl_program.specs.World.{world, Says};
+ghost use Rattle.wgsl_format_files.specs.Start.{is_filter, name_of};
 ghost use Rattle.wgsl_format_files.specs.Start.{usage_text, memory_text, argument_text};
-ghost use Rattle.wgsl_format_files.specs.Start.{IsStart, IsHint, IsRequestRun, Says};
+ghost use Rattle.wgsl_format_files.specs.Start.{IsStart, IsHint, IsRequestRun};
 
 use crate::formatter::DEPTH;
 use crate::inputs::{Input, inputs_of};
 use crate::layout::is_nothing;
-use crate::printing::put;
 use crate::run::{How, format_all};
 use crate::usage::{HELP, VERSION};
 use std::alloc::{AllocError, Global};
@@ -27,6 +26,7 @@ use wgsl_command::{
 };
 use wgsl_files::{Status, Store};
 use wgsl_format::{Tidier, run};
+use wgsl_program::say;
 
 /// Runs `wgsltidy` with these arguments, without its own name, over these files and streams.
 /// Returns its status.
@@ -198,16 +198,4 @@ pub fn refuse_argument<E: Write>(errors: &mut E) -> u8
         "wgsltidy: error: an argument is not UTF-8\n",
         Status::Usage,
     )
-}
-
-/// Writes a text, and returns the status, or that of a write that fails.
-fn say<W: Write>(writer: &mut W, text: &str, status: Status) -> u8
-    ensures { Says text.now (code_of status)
-        (W.contents writer.old) (W.contents writer.new) result }
-{
-    if put(writer, text.as_bytes()) {
-        status.code()
-    } else {
-        Status::Failed.code()
-    }
 }

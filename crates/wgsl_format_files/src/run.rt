@@ -21,12 +21,13 @@ use crate::formatter::Tidy;
 use crate::input::format_input;
 use crate::inputs::Input;
 use crate::layout::layout_of;
-use crate::printing::{put, tell_event};
+use crate::printing::tell_event;
 use std::alloc::{AllocError, Global};
 use std::io::{Read, Write};
 use wgsl_choices::Choices;
 use wgsl_command::Mode;
 use wgsl_files::{Status, Store};
+use wgsl_program::put;
 
 /// The way in which files are formatted.
 #[derive(Clone, Copy, Debug)]

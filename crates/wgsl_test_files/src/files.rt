@@ -64,6 +64,25 @@ fn writes_nothing_where_files_are_looked_at(rt: HostRuntime) -> Result<(), Fail>
     Ok(())
 }
 
+#[test]
+fn writes_new_files_and_old_ones(rt: HostRuntime) -> Result<(), Fail> {
+    let alloc = rt.alloc();
+    let mut store = store(alloc)?;
+    for path in ["a", "none"] {
+        assert!(rt; store.write(alloc, path, b"z").is_ok(), "of {path}");
+    }
+    for (path, text) in [
+        ("a", "z"),
+        ("b", "x!"),
+        ("c", "x\n"),
+        ("d", "y"),
+        ("none", "z"),
+    ] {
+        assert!(rt; text_at(&store, path) == text.as_bytes(), "of {path}");
+    }
+    Ok(())
+}
+
 /// Files without a text.
 fn empty(alloc: Global, paths: &[&str]) -> Result<MemoryStore, AllocError> {
     let mut files = BTreeMap::new(alloc);

@@ -41,6 +41,29 @@ fn follows_links_and_keeps_permissions(rt: HostRuntime) -> Result<(), Fail> {
     Ok(())
 }
 
+/// A new file is written, an old one is replaced, and a folder is neither; no other file is left.
+#[test]
+fn writes_files(rt: HostRuntime) -> Result<(), Fail> {
+    let alloc = rt.alloc();
+    let place = std::env::temp_dir(&rt)?;
+    let id = process::id(rt.process());
+    let folder = format!(in alloc; "{}/wgsl_test_files.write.{id}", place.as_str())?;
+    fs::create_dir(&rt, folder.as_str())?;
+    let file = format!(in alloc; "{folder}/a")?;
+    let below = format!(in alloc; "{folder}/none/a")?;
+    let mut store = HostStore { rt: &rt };
+    for text in ["x", "y"] {
+        assert!(rt; store.write(alloc, file.as_str(), text.as_bytes()).is_ok());
+        assert!(rt; fs::read(&rt, file.as_str())?.as_slice() == text.as_bytes());
+    }
+    for path in [folder.as_str(), below.as_str()] {
+        assert!(rt; store.write(alloc, path, b"z").is_err(), "of {path}");
+    }
+    assert_eq!(rt; fs::read_dir(&rt, folder.as_str())?.count(), 1);
+    fs::remove_dir_all(&rt, folder.as_str())?;
+    Ok(())
+}
+
 /// A folder's files are listed, through links to files, and not those of folders that are links or
 /// whose names begin with `.`.
 #[test]

@@ -3,8 +3,10 @@
 use std::alloc::{AllocError, Global};
 use std::test::Fail;
 use wgsl_minify_names::{Which, choose};
+use wgsl_name_map::map_text;
 use wgsl_tree_names::Occurrence;
 use wgsl_tree_names::Occurrence::{Declaration, ScopeEnd, ScopeStart, Use};
+use wgsl_tree_renamed::NewNames;
 
 /// The names of a module that declares `f` and `g`, and has two functions.
 const NAMES: [Occurrence<'static>; 25] = [
@@ -86,5 +88,24 @@ fn words_and_names_of_the_module_stay(rt: HostRuntime) -> Result<(), Fail> {
     ];
     assert_eq!(rt; row(alloc, &names, Which::Locals, &[])?.as_str(), "");
     assert_eq!(rt; row(alloc, &names, Which::All, &["a"])?.as_str(), "long=b ");
+    Ok(())
+}
+
+/// Names keep their order, and texts are written as JSON has them.
+#[test]
+fn names_are_members(rt: HostRuntime) -> Result<(), Fail> {
+    let alloc = rt.alloc();
+    let mut names = NewNames::new(alloc);
+    assert_eq!(rt; map_text(alloc, &names)?.as_str(), "{}");
+    for (name, new) in [("Größe", "a"), ("b", "x\"y"), ("a", "\u{1f}\\")] {
+        names.insert(
+            String::from_str(alloc, name)?,
+            String::from_str(alloc, new)?,
+        )?;
+    }
+    assert_eq!(rt;
+        map_text(alloc, &names)?.as_str(),
+        "{\"Größe\":\"a\",\"b\":\"x\\\"y\",\"a\":\"\\u001f\\\\\"}"
+    );
     Ok(())
 }

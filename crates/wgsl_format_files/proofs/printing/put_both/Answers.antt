@@ -1,5 +1,5 @@
 use Rattle.std.proofs.Common.{rules}
-use Rattle.wgsl_format_files.proofs.Written.{wrote_then}
+use Rattle.wgsl_program.proofs.Written.{wrote_then}
 use Rattle.wgsl_format_files.proofs.printing.put_both.Goals as goal
 
 pub returns : goal.returns

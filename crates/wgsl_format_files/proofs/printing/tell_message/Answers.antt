@@ -1,7 +1,7 @@
 use Rattle.std.proofs.Common.{rules, ◌≡◌, ap, ◌∙◌, sym, ℕ, List, ◌++◌, Option, Some, codes, subst}
-use Rattle.wgsl_format_files.specs.Written.{Wrote}
+use Rattle.wgsl_program.specs.Written.{Wrote}
 use Rattle.wgsl_format_files.specs.Events.{told_after, pair_copied}
-use Rattle.wgsl_format_files.proofs.Written.{wrote_then}
+use Rattle.wgsl_program.proofs.Written.{wrote_then}
 use Rattle.wgsl_format_files.proofs.printing.tell_message.Goals as goal
 
 -- the texts that are written are those of the message

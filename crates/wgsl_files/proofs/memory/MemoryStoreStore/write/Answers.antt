@@ -1,6 +1,6 @@
 use Rattle.std.proofs.Common.{rules, arith}
 use Rattle.std.proofs.lemmas.Map.Text.{text_keys}
-use Rattle.wgsl_files.proofs.memory.MemoryStoreStore.replace.Goals as goal
+use Rattle.wgsl_files.proofs.memory.MemoryStoreStore.write.Goals as goal
 
 pub returns-clause-ok : goal.returns-clause-ok
 returns-clause-ok c = record {

@@ -4,7 +4,7 @@ use Rattle.std.proofs.lemmas.List.{append-nil, append_assoc, take-append-drop}
 use Rattle.std.proofs.lemmas.Bool.{false≢true}
 use Rattle.std.proofs.KnownBytes.{Appends-nil, Appends-trans}
 use Rattle.std.specs.Io.KnownBytes.{Appends}
-use Rattle.wgsl_format_files.specs.Written.{Wrote}
+use Rattle.wgsl_program.specs.Written.{Wrote}
 
 module _ (old new : Option (List ℕ)) (text : List ℕ) where
   -- all of a text

@@ -1,5 +1,5 @@
-use Rattle.wgsl_format_files.proofs.Written.{wrote_all, wrote_some}
-use Rattle.wgsl_format_files.proofs.printing.put.Goals as goal
+use Rattle.wgsl_program.proofs.Written.{wrote_all, wrote_some}
+use Rattle.wgsl_program.proofs.text.put.Goals as goal
 
 pub returns-in-Ok : goal.returns-in-Ok
 returns-in-Ok g c = wrote_all _ _ _ _ (c.in-Ok.ensures.all)

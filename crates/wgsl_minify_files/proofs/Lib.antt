@@ -1,0 +1,4 @@
+pub mod Asked
+pub mod Failures
+pub mod Runs
+pub mod Starts

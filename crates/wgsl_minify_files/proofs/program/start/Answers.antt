@@ -1,0 +1,10 @@
+use Rattle.wgsl_minify_files.specs.View.{options_view}
+use Rattle.wgsl_minify_files.proofs.Starts.{run_start, told_start}
+use Rattle.wgsl_minify_files.proofs.program.start.Goals as goal
+
+pub returns-in-Ok : goal.returns-in-Ok
+returns-in-Ok g c = run_start _ (options_view c.in-Ok.options) _ _ _ c.in-Ok.ensures c.run.ensures
+
+pub returns-in-Err : goal.returns-in-Err
+returns-in-Err g c = told_start _ c.in-Err.error _ _ _ c.in-Err.ensures
+    (c.tell.ensures (g.S.Store.files c.args.store.now) (g.R.Read.remaining c.args.input.now))

@@ -1,0 +1,5 @@
+pub mod Options
+pub mod View
+pub mod Failures
+pub mod Runs
+pub mod Start

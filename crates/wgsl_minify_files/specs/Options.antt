@@ -1,0 +1,75 @@
+-- What arguments ask for.
+use Rattle.std.specs.Prelude.{ℕ, ◌==◌, Bool, true, List, [], ◌∷◌, Option, Some, None, Result, Ok, Err, codes, flat_map, if◌then◌else◌}
+use Rattle.std.specs.List.{slice_split}
+use Rattle.std.specs.Option.{unwrap_or}
+use Rattle.std.specs.Str.{bytes_eq}
+use Rattle.clap.specs.Words.{App, Row, Rule, Kinds, new_app, new_rule, with_rule, matches_of, first_of, all_of, fault_of}
+use Rattle.clap.specs.declared.builder.action.ArgAction.TheVariants.{Append}
+use Rattle.clap.specs.declared.error.kind.ErrorKind.TheVariants.{InvalidValue}
+use Rattle.wgsl_model_minify.specs.Renamed.{Which, no_names, local_names, all_names}
+
+-- an option with one value
+abbrev pub setting : List ℕ → Rule
+setting name = record (new_rule name) { long = Some name; value_names = 1 }
+
+-- the program for `clap`, which is given no name of its own, with `--help` and `--version`
+abbrev pub program : App
+program = record {
+  top = record (new_app (codes "wgslmin")).top { no_binary_name = true; has_version = true };
+  subs = [];
+}
+
+-- with a file, `--output` or `-o`, `--names`, `--keep`, which may be there more than once, and
+-- `--map`
+abbrev pub command : App
+command = with_rule (with_rule (with_rule (with_rule (with_rule program (new_rule (codes "FILE")))
+    (record (setting (codes "output")) { short = Some 111 })) (setting (codes "names")))
+    (record (setting (codes "keep")) { action = Some Append })) (setting (codes "map"))
+
+-- what is asked for: where the module is and where its text is written, a path or with none the
+-- standard input and output; the path for the new names, if they are asked for; which names get new
+-- ones, and which stay
+pub record Options : Type 0 where
+  pub input : Option (List ℕ)
+  pub output : Option (List ℕ)
+  pub map : Option (List ℕ)
+  pub which : Which
+  pub keep : List (List ℕ)
+
+-- `-` is no path
+abbrev pub path_of : Option (List ℕ) → Option (List ℕ)
+path_of None = None
+path_of (Some text) = if bytes_eq text (codes "-") then None else Some text
+
+-- the names that get new ones, for a value of `--names`
+abbrev pub which_of : Option (List ℕ) → Option Which
+which_of None = Some all_names
+which_of (Some value) = if bytes_eq value (codes "none") then Some no_names
+    else if bytes_eq value (codes "locals") then Some local_names
+    else if bytes_eq value (codes "all") then Some all_names
+    else None
+
+abbrev pub is_comma : ℕ → Bool
+is_comma c = c == 44
+
+-- what is asked for by the values that were given
+abbrev pub options_of : List Row → Which → Options
+options_of rows which = record {
+  input = path_of (first_of (codes "FILE") rows);
+  output = path_of (first_of (codes "output") rows);
+  map = first_of (codes "map") rows;
+  which = which;
+  keep = flat_map (slice_split is_comma) (unwrap_or (all_of (codes "keep") rows) []);
+}
+
+abbrev pub asked_with : Option Which → List Row → Result Options Kinds
+asked_with None rows = Err (InvalidValue ∷ [])
+asked_with (Some which) rows = Ok (options_of rows which)
+
+abbrev pub asked_by : Kinds → List Row → Result Options Kinds
+asked_by [] rows = asked_with (which_of (first_of (codes "names") rows)) rows
+asked_by (kind ∷ kinds) rows = Err (kind ∷ kinds)
+
+-- what arguments ask for, or of which kind their error is; `--help` and `--version` are such kinds
+unfoldable pub asked : List (List ℕ) → Result Options Kinds
+asked words = asked_by (fault_of command words) (matches_of command words)

@@ -1,0 +1,169 @@
+//! What the arguments ask for.
+
+ghost use Rattle.std.specs.Prelude.{◌≡◌, false, [], map, flat_map, option_map, string_bytes, IfOk};
+ghost use Rattle.std.specs.List.{slice_split};
+ghost use Rattle.std.specs.Option.{option_copied, unwrap_or};
+ghost use Rattle.clap.specs.Words.{app_of, rule_of};
+ghost use Rattle.wgsl_minify_names.specs.View.{texts, which_view};
+ghost use Rattle.wgsl_minify_files.specs.Options as plain;
+ghost use Rattle.wgsl_minify_files.specs.View.{Gives};
+
+use clap::error::ErrorKind;
+use clap::{Arg, ArgAction, Command, Error};
+use std::alloc::{AllocError, Global};
+use wgsl_minify::Which;
+
+/// The request of arguments.
+#[derive(Debug, Drop)]
+pub struct Options<'a> {
+    /// The path of the module. With `None` it is read from the standard input.
+    pub input: Option<&'a str>,
+    /// The path for the minified text. With `None` it is written to the standard output.
+    pub output: Option<&'a str>,
+    /// The path for the JSON of the new names. With `None` they are not written.
+    pub map: Option<&'a str>,
+    pub names: Which,
+    pub keep: Vec<&'a str>,
+}
+
+/// Returns what arguments ask for, without the program's name. Otherwise the error has the text to
+/// print: what is wrong with them, or what `--help` or `--version` prints.
+pub fn read_options<'a>(alloc: Global, arguments: &'a [String]) -> Result<Options<'a>, Error>
+    ensures { Gives (plain.asked (map string_bytes arguments.now)) result }
+{
+    let mut command = command(alloc)?;
+    let matches = command.try_get_matches_from_mut(arguments)?;
+    let Some(names) = which_of(matches.get_str("names")) else {
+        return Err(command.error(ErrorKind::InvalidValue, WRONG_NAMES)?);
+    };
+    let keep = kept_names(alloc, matches.get_strs("keep"))?;
+    Ok(Options {
+        input: path_of(matches.get_str("FILE")),
+        output: path_of(matches.get_str("output")),
+        map: matches.get_str("map"),
+        names,
+        keep,
+    })
+}
+
+/// What is wrong with another value of `--names`.
+const WRONG_NAMES: &str = "option '--names' takes none, locals or all";
+
+/// The end of the text of `--help`.
+const AFTER_HELP: &str = "\
+Each name that is declared gets a new name, but those of members, entry points and overrides, and
+those in a list of --keep.
+
+Status: 0 success, 2 wrong arguments, 3 the module has an error or is not UTF-8, 4 a file could not
+be read or written, 5 out of memory.";
+
+/// The program's options and its version.
+fn command<'a>(alloc: Global) -> Result<Command<'a>, AllocError>
+    ensures { IfOk result (λ command. app_of command ≡ plain.command) }
+{
+    let file = Arg::new(alloc, "FILE").help("The module; with none or - the standard input");
+    let output = setting(alloc, "output", "FILE", "Write the text to a file").short('o');
+    let names = setting(
+        alloc,
+        "names",
+        "WHICH",
+        "The names that get new ones: none, locals or all [default: all]",
+    );
+    let keep = setting(
+        alloc,
+        "keep",
+        "NAME[,NAME]..",
+        "Names that stay; may be repeated",
+    )
+    .action(ArgAction::Append);
+    let map = setting(
+        alloc,
+        "map",
+        "FILE",
+        "Write the names that got new ones, with these, to a file as JSON",
+    );
+    program(alloc)
+        .arg(file)?
+        .arg(output)?
+        .arg(names)?
+        .arg(keep)?
+        .arg(map)
+}
+
+/// The program without its options.
+fn program<'a>(alloc: Global) -> Command<'a>
+    ensures { app_of result ≡ plain.program }
+{
+    Command::new(alloc, "wgslmin")
+        .no_binary_name(true)
+        .version("0.1.0")
+        .about("Minifies a WGSL module")
+        .after_help(AFTER_HELP)
+}
+
+/// An option with one value, which has this name in the text of `--help`.
+fn setting<'a>(alloc: Global, name: &'a str, value: &'a str, help: &'a str) -> Arg<'a>
+    ensures rule { rule_of result ≡ plain.setting name.entry.now }
+    ensures local { result.global ≡ false }
+{
+    Arg::new(alloc, name)
+        .long(name)
+        .value_name(value)
+        .help(help)
+}
+
+/// The names that a value of `--names` chooses: all, if it is not given.
+fn which_of(value: Option<&str>) -> Option<Which>
+    ensures { option_map which_view result ≡ plain.which_of (option_copied value.entry) }
+{
+    let Some(value) = value else {
+        return Some(Which::All);
+    };
+    match value {
+        "none" => Some(Which::None),
+        "locals" => Some(Which::Locals),
+        "all" => Some(Which::All),
+        _ => None,
+    }
+}
+
+/// The path that is given, if it is not `-`.
+fn path_of(value: Option<&str>) -> Option<&str>
+    ensures { option_copied result ≡ plain.path_of (option_copied value.entry) }
+{
+    match value {
+        Some("-") => None,
+        _ => value,
+    }
+}
+
+/// The names in the lists that are given, if any.
+fn kept_names<'a>(alloc: Global, lists: Option<&[&'a str]>) -> Result<Vec<&'a str>, AllocError>
+    ensures { IfOk result (λ names. texts names.items ≡ flat_map (slice_split plain.is_comma)
+        (unwrap_or (option_map (λ lists. texts lists.now) lists.entry) [])) }
+{
+    match lists {
+        Some(lists) => names_in(alloc, lists),
+        None => Ok(Vec::new(alloc)),
+    }
+}
+
+/// The names in lists, in each of which commas are between them.
+fn names_in<'a>(alloc: Global, lists: &[&'a str]) -> Result<Vec<&'a str>, AllocError>
+    ensures { IfOk result (λ names. texts names.items
+        ≡ flat_map (slice_split plain.is_comma) (texts lists.now)) }
+{
+    let mut names = Vec::new(alloc);
+    'lists: for list in lists {
+        let more = parts_of(alloc, list)?;
+        names.extend_from_slice(more.as_slice())?;
+    }
+    Ok(names)
+}
+
+/// The parts of a list between its commas.
+fn parts_of(alloc: Global, list: &str) -> Result<Vec<&str>, AllocError>
+    ensures { IfOk result (λ parts. texts parts.items ≡ slice_split plain.is_comma list.now) }
+{
+    list.split(',').collect::<Vec<&str>>(alloc)
+}

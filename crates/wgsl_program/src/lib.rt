@@ -1,0 +1,6 @@
+//! What a program writes, and its status.
+#![tactic(auto)]
+
+mod text;
+
+pub use text::{put, say};
