@@ -18,14 +18,15 @@
  * answer, or a number that no memory has, the status is WGSL_BAD_ARGUMENT, and nothing is written.
  *
  * What a caller must see to, since no call can test it: the bytes of a text can be read, and do not
- * change until the call returns; the buffer and the answer can be written, whatever they hold; the
- * text, the name of its file, the buffer and the answer do not overlap; and there is enough stack.
+ * change until the call returns; the buffer and the answer can be written, whatever they hold; what
+ * is read, the buffer and the answer do not overlap; and there is enough stack.
  * A text nests as deep as its brackets, blocks, template lists and prefix operators do, and each
  * takes stack while the text is read: as measured over wgsl_recognize, wgsl_check, wgsl_format and
- * wgsl_tree, at most 2,750 bytes for a block with its statement and 1,200 for each other, and in
- * wgsl_tidy 1,250 for each. wgsl_nesting returns how deep a text nests, and takes no such stack. In
- * wgsl_print each node inside another takes at most 5,700 bytes for a block with its statement and
- * 2,300 for each other. A left operand, and what is before a component or an index, takes none.
+ * wgsl_tree, at most 2,750 bytes for a block with its statement and 1,200 for each other, in
+ * wgsl_minify 2,900 and 1,600, and in wgsl_tidy 1,250 for each. wgsl_nesting returns how deep a
+ * text nests, and takes no such stack. In wgsl_print each node inside another takes at most 5,700
+ * bytes for a block with its statement and 2,300 for each other. A left operand, and what is before
+ * a component or an index, takes none.
  *
  * Memory. While it runs, a call takes memory by the program's malloc, realloc and free, and gives
  * all of it back before it returns. Where they fail, the status is WGSL_OUT_OF_MEMORY. The three
@@ -59,10 +60,10 @@ enum wgsl_status {
     WGSL_OUT_OF_MEMORY = 3,
     /* The buffer is too small for what `size` says is needed. A buffer of bytes does not change. */
     WGSL_TOO_SMALL = 4,
-    /* No tree has the number that was asked for. */
+    /* No tree, or no choice of names, has the number that was asked for. */
     WGSL_UNKNOWN = 5,
-    /* A null pointer where memory is wanted, a number that no memory has, or a name of a file that
-     * is not UTF-8. */
+    /* A null pointer where memory is wanted, a number that no memory has, or a name of a file or
+     * names to keep that are not UTF-8. */
     WGSL_BAD_ARGUMENT = 6
 };
 
@@ -94,7 +95,7 @@ enum wgsl_fault {
 struct wgsl_answer {
     /* How many bytes or items there are to give, or the number that was asked for. */
     size_t size;
-    /* Where a fault starts and ends. */
+    /* Where a fault starts and ends; of wgsl_minify, where the new names do in the buffer. */
     size_t start;
     size_t end;
     /* The kind of a fault: one of enum wgsl_fault. */
@@ -135,6 +136,15 @@ struct wgsl_layout {
 /* The standard layout: lines of up to 100 columns, four spaces a level, and the line breaks of the
  * source. */
 #define WGSL_STANDARD_LAYOUT { 100, 4, 0, WGSL_NEWLINES_AUTO }
+
+/* The names that get new ones in a minified module. */
+enum wgsl_names {
+    WGSL_NO_NAMES = 0,
+    /* Those that are declared in functions alone. */
+    WGSL_LOCAL_NAMES = 1,
+    /* All that are declared. */
+    WGSL_ALL_NAMES = 2
+};
 
 /* The kinds of trees that are read from a text, and of nodes that are printed. */
 enum wgsl_tree_kind {
@@ -256,6 +266,9 @@ uint32_t wgsl_c_format(const uint8_t *text, size_t size, uint8_t *buffer, size_t
                        struct wgsl_answer *answer);
 uint32_t wgsl_c_tidy(const struct wgsl_layout *layout, const uint8_t *text, size_t size,
                      uint8_t *buffer, size_t buffer_size, struct wgsl_answer *answer);
+uint32_t wgsl_c_minify(uint32_t names, const uint8_t *keep, size_t keep_size, const uint8_t *text,
+                       size_t size, uint8_t *buffer, size_t buffer_size,
+                       struct wgsl_answer *answer);
 uint32_t wgsl_c_check(const uint8_t *text, size_t size, uint8_t *buffer, size_t buffer_size,
                       struct wgsl_answer *answer);
 uint32_t wgsl_c_snippet(const uint8_t *name, size_t name_size, const uint8_t *text, size_t size,
@@ -316,6 +329,25 @@ static inline uint32_t wgsl_tidy(const struct wgsl_layout *layout, const char *t
     }
     return wgsl_c_tidy(layout != NULL ? layout : &standard, (const uint8_t *)wgsl_at(text), size,
                        (uint8_t *)wgsl_at(buffer), buffer_size, answer);
+}
+
+/* Writes the minified text of a module into the buffer and, after it, its new names: JSON with a
+ * member for each name that got one, such as {"color":"a","size":"b"}. The text is in front of the
+ * byte `start` of the answer. It is the shortest text of the module with these names, without
+ * comments and empty items; each use of a name refers to what it referred to before. `names` is
+ * one of enum wgsl_names, and WGSL_UNKNOWN is the status for another number. The names of entry
+ * points, overrides and members stay, and so do those on the lines of `keep`, which may be empty.
+ * Most results fit where the buffer is as large as the text. */
+static inline uint32_t wgsl_minify(uint32_t names, const char *keep, size_t keep_size,
+                                   const char *text, size_t size, char *buffer, size_t buffer_size,
+                                   struct wgsl_answer *answer) {
+    if (!wgsl_is_memory(keep, keep_size, 1) || !wgsl_is_memory(text, size, 1)
+        || !wgsl_is_memory(buffer, buffer_size, 1) || answer == NULL) {
+        return WGSL_BAD_ARGUMENT;
+    }
+    return wgsl_c_minify(names, (const uint8_t *)wgsl_at(keep), keep_size,
+                         (const uint8_t *)wgsl_at(text), size, (uint8_t *)wgsl_at(buffer),
+                         buffer_size, answer);
 }
 
 /* Checks whether a text is a module: WGSL_DONE with the size 0, or WGSL_REFUSED. The buffer is for

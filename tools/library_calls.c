@@ -42,13 +42,18 @@ static uint32_t snippet_in_file(const char *text, size_t size, char *buffer, siz
     return wgsl_snippet("f.wgsl", 6, text, size, buffer, buffer_size, said);
 }
 
+static uint32_t minify(const char *text, size_t size, char *buffer, size_t buffer_size,
+                       struct wgsl_answer *said) {
+    return wgsl_minify(WGSL_ALL_NAMES, NULL, 0, text, size, buffer, buffer_size, said);
+}
+
 /* Each with the first byte of what it writes of a text that ends too early. */
 static const struct {
     text_call *call;
     char first;
 } text_calls[] = {
     {wgsl_format, 'u'},    {tidy, 'u'}, {wgsl_check, 'u'}, {snippet, 'e'}, {snippet_in_file, 'f'},
-    {wgsl_recognize, 'u'}, {tree, 'u'},
+    {wgsl_recognize, 'u'}, {tree, 'u'}, {minify, 'u'},
 };
 
 /* Returns whether a buffer is as it was filled: with one byte again and again. */
@@ -260,6 +265,61 @@ static int check_names_of_files(void) {
     return 0;
 }
 
+/* Returns whether a text is minified so, with these new names after it, in a buffer that both fit
+ * into, and a smaller one does not change. */
+static int is_minified(uint32_t names, const char *keep, const char *text, const char *minified,
+                       const char *map) {
+    char buffer[256];
+    size_t kept = strlen(keep), given = strlen(text), start = strlen(minified);
+    size_t size = start + strlen(map);
+    memset(buffer, '#', sizeof buffer);
+    return wgsl_minify(names, keep, kept, text, given, buffer, size - 1, &answer) == WGSL_TOO_SMALL
+        && is_answer(size, start, size, 0, 0) && is_filled(buffer, sizeof buffer)
+        && wgsl_minify(names, keep, kept, text, given, buffer, size, &answer) == WGSL_DONE
+        && is_answer(size, start, size, 0, 0) && memcmp(buffer, minified, start) == 0
+        && memcmp(buffer + start, map, size - start) == 0
+        && is_filled(buffer + size, sizeof buffer - size);
+}
+
+/* Names get new ones as is chosen, the names that occur most often first; entry points and names to
+ * keep stay, and no name gets one of these. */
+static int check_minified(void) {
+    static const char text[] =
+        "@fragment fn main() { let long = other + kept; } const other = 1; const kept = 2; // a";
+    CHECK(is_minified(WGSL_NO_NAMES, "", text,
+                      "@fragment fn main(){let long=other+kept;}const other=1;const kept=2;",
+                      "{}"));
+    CHECK(is_minified(WGSL_LOCAL_NAMES, "", text,
+                      "@fragment fn main(){let a=other+kept;}const other=1;const kept=2;",
+                      "{\"long\":\"a\"}"));
+    CHECK(is_minified(WGSL_ALL_NAMES, "kept", text,
+                      "@fragment fn main(){let b=a+kept;}const a=1;const kept=2;",
+                      "{\"other\":\"a\",\"long\":\"b\"}"));
+    CHECK(is_minified(WGSL_ALL_NAMES, "kept\r\nlong\na\n", text,
+                      "@fragment fn main(){let long=b+kept;}const b=1;const kept=2;",
+                      "{\"other\":\"b\"}"));
+    CHECK(is_minified(WGSL_ALL_NAMES, "", "", "", "{}"));
+    return 0;
+}
+
+/* No choice of names has another number, and names to keep have to be UTF-8 and memory. */
+static int check_minify_arguments(void) {
+    char buffer[64];
+    memset(buffer, '#', sizeof buffer);
+    CHECK(wgsl_minify(WGSL_ALL_NAMES + 1, "a", 1, "", 0, buffer, 9, &answer) == WGSL_UNKNOWN);
+    CHECK(is_size(0) && wgsl_minify(3, "\xff", 1, "", 0, buffer, 9, &answer) == WGSL_UNKNOWN);
+    answer.size = 9;
+    CHECK(wgsl_minify(2, "a\n\xff", 3, "1", 1, buffer, 9, &answer) == WGSL_BAD_ARGUMENT);
+    CHECK(wgsl_minify(2, NULL, 1, "1", 1, buffer, 9, &answer) == WGSL_BAD_ARGUMENT);
+    CHECK(wgsl_minify(2, "", SIZE_MAX, "1", 1, buffer, 9, &answer) == WGSL_BAD_ARGUMENT);
+    CHECK(is_size(9) && is_filled(buffer, sizeof buffer));
+    CHECK(wgsl_minify(3, "\xff", 1, "\xff", 1, buffer, 9, &answer) == WGSL_NOT_UTF8);
+    CHECK(is_size(0) && is_filled(buffer, sizeof buffer));
+    CHECK(wgsl_minify(2, "a", 1, "const = 1;", 10, NULL, 0, &answer) == WGSL_REFUSED);
+    CHECK(is_answer(55, 6, 7, WGSL_UNEXPECTED_TOKEN, 1));
+    return 0;
+}
+
 static int is_token(const struct wgsl_token *token, size_t kind, size_t start, size_t end) {
     return token->kind == kind && token->start == start && token->end == end;
 }
@@ -454,7 +514,7 @@ static int (*const checks[])(void) = {
     check_layouts,    check_faults,        check_snippets,        check_names_of_files,
     check_tokens,     check_comments,      check_lists,           check_trees,
     check_prints,     check_refused_forms, check_print_arguments, check_positions,
-    check_names,      check_message,
+    check_names,      check_message,       check_minified,        check_minify_arguments,
 };
 
 int main(void) {

@@ -52,7 +52,7 @@ struct said {
 };
 
 enum { FORMAT, TIDIED, CHECKED, SNIPPET, IN_FILE, RECOGNIZED, TOKENS, COMMENTS, LISTS, BEGINS };
-enum { NESTING = BEGINS + 1, TREES };
+enum { NESTING = BEGINS + 1, MINIFIED, TREES };
 enum { PRINTS = TREES + WGSL_EXPRESSION + 1, CALLS = PRINTS + WGSL_TYPE_CONSTRAINT + 1 };
 
 /* Makes a call; those from TREES on ask for the kinds of trees, one after another, and those from
@@ -86,6 +86,9 @@ static uint32_t make(int call, const char *text, size_t size, struct said *said)
         return wgsl_begins_with_template_list(text, size, &said->answer);
     case NESTING:
         return wgsl_nesting(text, size, &said->answer);
+    case MINIFIED:
+        return wgsl_minify(WGSL_ALL_NAMES, "f\na", 3, text, size, buffer, buffer_size,
+                           &said->answer);
     default:
         break;
     }

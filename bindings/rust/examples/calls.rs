@@ -1,4 +1,4 @@
-//! Prints and formats a module, reads a module and an expression to their trees, and prints a changed tree.
+//! Prints, formats, minifies and reads modules, and prints a changed tree.
 
 use centrelilac::syntax::GlobalDeclaration;
 use std::error::Error;
@@ -6,9 +6,11 @@ use std::error::Error;
 fn main() -> Result<(), Box<dyn Error>> {
     let printed = centrelilac::format("const N=0x1f;")?;
     let tidied = centrelilac::tidy("const N=0x1f; // thirty-one")?;
+    let small = centrelilac::minify("const size = 0x1f;", &Default::default())?.text;
     let unit = centrelilac::parse("alias A = B;")?;
     let sum: centrelilac::syntax::Expression = "a + b".parse()?;
     print!("{printed}{tidied}");
+    println!("{small}");
     println!("{unit:?}");
     println!("{sum:?}");
 

@@ -2,7 +2,7 @@
 
 use crate::fault::Fault;
 use crate::ffi::{
-    begins_with_list_call, lists_call, nesting_call, text_call, tokens_call, Call, Place,
+    begins_with_list_call, lists_call, nesting_call, text_call, tokens_call, Answer, Call, Place,
     PlacedKind, Said,
 };
 use crate::kind::TokenKind;
@@ -23,7 +23,7 @@ const LEAST_SIZE: usize = 1024;
 
 /// Makes a call that writes bytes, with a buffer of about a size, and again if that was too small.
 /// Returns what it wrote too.
-fn written(call: Call, text: &str, size: usize) -> (Said, Vec<u8>) {
+fn written(call: Call<'_>, text: &str, size: usize) -> (Said, Vec<u8>) {
     let mut buffer = Vec::with_capacity(size.max(LEAST_SIZE));
     loop {
         let said = text_call(call, text, &mut buffer);
@@ -40,14 +40,19 @@ fn utf8(bytes: Vec<u8>) -> String {
     String::from_utf8(bytes).expect("the library writes UTF-8")
 }
 
-/// The text that a call writes, with a buffer of about a size at first.
-pub(crate) fn text_of(call: Call, text: &str, size: usize) -> Result<String, Fault> {
+/// The answer of a call and the text that it writes, with a buffer of about a size at first.
+pub(crate) fn answered(call: Call<'_>, text: &str, size: usize) -> Result<(Answer, String), Fault> {
     let (said, bytes) = written(call, text, size);
     match said.status {
-        DONE => Ok(utf8(bytes)),
+        DONE => Ok((said.answer, utf8(bytes))),
         REFUSED => Err(Fault::told(text, &said.answer, &bytes)),
         _ => Err(Fault::out_of_memory()),
     }
+}
+
+/// The text that a call writes, with a buffer of about a size at first.
+pub(crate) fn text_of(call: Call<'_>, text: &str, size: usize) -> Result<String, Fault> {
+    answered(call, text, size).map(|(_, text)| text)
 }
 
 /// Returns the canonical text of a module: without comments, blank lines and the author's line

@@ -75,6 +75,16 @@ extern "C" {
         room_size: usize,
         answer: *mut Answer,
     ) -> u32;
+    fn wgsl_c_minify(
+        names: u32,
+        keep: *const u8,
+        keep_size: usize,
+        text: *const u8,
+        size: usize,
+        room: *mut u8,
+        room_size: usize,
+        answer: *mut Answer,
+    ) -> u32;
     fn wgsl_c_check(
         text: *const u8,
         size: usize,
@@ -151,11 +161,14 @@ pub struct Said {
 
 /// A call that reads a text and writes bytes.
 #[derive(Clone, Copy, Debug)]
-pub enum Call {
+pub enum Call<'k> {
     /// The printed text.
     Format,
     /// The formatted text, by a layout.
     Tidy(Choices),
+    /// The minified text and its new names, by the number of the names that get new ones and the
+    /// lines of those that stay.
+    Minify(u32, &'k str),
     /// Whether it is a module.
     Check,
     /// Whether it is a module of the dialect.
@@ -168,13 +181,13 @@ pub enum Call {
 
 /// Makes a call, which writes into the buffer as far as its capacity. The buffer has what the call
 /// wrote then, or nothing, if that does not fit.
-pub fn text_call(call: Call, text: &str, room: &mut Vec<u8>) -> Said {
+pub fn text_call(call: Call<'_>, text: &str, room: &mut Vec<u8>) -> Said {
     room.clear();
     let mut answer = Answer::default();
     let (at, size) = (text.as_ptr(), text.len());
     let (to, room_size) = (room.as_mut_ptr(), room.capacity());
-    // SAFETY: the declarations above are those of the exports. The text and the buffer are those of
-    // one `&str` and one `&mut Vec`, which are never null, are apart from each other and from
+    // SAFETY: the declarations above are those of the exports. The texts and the buffer are those
+    // of `&str`s and one `&mut Vec`, which are never null, are apart from each other and from
     // the answer, and are borrowed for the call, and no slice of Rust's is longer than the
     // exports take; the layout lives as long as the call. An export requires nothing else,
     // does not read the buffer, and writes nowhere else.
@@ -182,6 +195,10 @@ pub fn text_call(call: Call, text: &str, room: &mut Vec<u8>) -> Said {
         match call {
             Call::Format => wgsl_c_format(at, size, to, room_size, &mut answer),
             Call::Tidy(by) => wgsl_c_tidy(&by, at, size, to, room_size, &mut answer),
+            Call::Minify(names, keep) => {
+                let (kept, kept_size) = (keep.as_ptr(), keep.len());
+                wgsl_c_minify(names, kept, kept_size, at, size, to, room_size, &mut answer)
+            }
             Call::Check => wgsl_c_check(at, size, to, room_size, &mut answer),
             Call::Recognize => wgsl_c_recognize(at, size, to, room_size, &mut answer),
             Call::Tree(what) => wgsl_c_tree(what, at, size, to, room_size, &mut answer),

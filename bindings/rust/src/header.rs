@@ -3,6 +3,7 @@
 use crate::calls::{DONE, REFUSED, TOO_SMALL};
 use crate::fault::FaultKind;
 use crate::form::sealed::Numbered;
+use crate::minified::Names;
 use crate::syntax::*;
 
 const HEADER: &str = include_str!("../../../include/wgsl.h");
@@ -43,6 +44,17 @@ fn kinds_have_the_numbers_of_the_header() {
     ];
     let here = here.map(|(name, number)| (name, number as usize));
     assert_eq!(numbers("wgsl_tree_kind"), here);
+}
+
+#[test]
+fn choices_of_names_have_the_numbers_of_the_header() {
+    let here = [
+        ("NO_NAMES", Names::None),
+        ("LOCAL_NAMES", Names::Locals),
+        ("ALL_NAMES", Names::All),
+    ];
+    let here = here.map(|(name, names)| (name, names as usize));
+    assert_eq!(numbers("wgsl_names"), here);
 }
 
 #[test]

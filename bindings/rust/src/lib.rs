@@ -42,6 +42,7 @@ mod header;
 mod kind;
 mod layout;
 mod lines;
+mod minified;
 mod nested;
 pub mod parser;
 pub mod span;
@@ -57,6 +58,7 @@ pub use fault::{Fault, Fault as Error, FaultKind};
 pub use kind::TokenKind;
 pub use layout::{tidy, tidy_with, Indent, Layout, Newlines};
 pub use lines::{LineIndex, Position};
+pub use minified::{minify, Minified, MinifyOptions, Names};
 pub use parser::{parse_str, recognize_str};
 pub use syntax::SyntaxNode;
 
@@ -70,6 +72,7 @@ const _: () = {
     const fn is_shared<T: Send + Sync>() {}
     is_shared::<Fault>();
     is_shared::<Token>();
+    is_shared::<Minified>();
     is_shared::<form::FormError>();
     is_shared::<syntax::TranslationUnit>();
     is_shared::<syntax::GlobalDirective>();

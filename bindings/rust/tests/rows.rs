@@ -9,7 +9,7 @@ use centrelilac::span::equal_with_spans;
 use centrelilac::syntax::{
     Expression, GlobalDeclaration, GlobalDirective, ModulePath, Statement, TranslationUnit,
 };
-use centrelilac::{Fault, FaultKind, Token};
+use centrelilac::{Fault, FaultKind, MinifyOptions, Names, Token};
 use row::{rows, Row};
 use std::fmt::Debug;
 use text::texts_of;
@@ -221,6 +221,30 @@ fn check_path(row: &Row, text: &str) {
     }
 }
 
+/// Checks a minified module and its new names.
+fn check_minified(row: &Row, text: &str, choice: &str) {
+    let (which, kept) = choice.split_once(' ').unwrap_or((choice, ""));
+    let names = match which {
+        "all" => Names::All,
+        "locals" => Names::Locals,
+        _ => Names::None,
+    };
+    let keep: Vec<&str> = kept.split(',').collect();
+    let minified = match centrelilac::minify(text, &MinifyOptions { names, keep: &keep }) {
+        Ok(minified) => minified,
+        Err(fault) => {
+            let wanted = row.wanted("fault").expect(&row.place);
+            return check_fault(row, text, wanted, &fault);
+        }
+    };
+    let line = |(name, new): &(String, String)| format!("{name} {new}");
+    let lines: Vec<_> = minified.names.iter().map(line).collect();
+    for (word, found) in [("names", &lines.join("\n")), ("printed", &minified.text)] {
+        let wanted = texts_of(row.wanted(word).expect(&row.place));
+        assert_eq!(found.as_bytes(), wanted, "{}", row.place);
+    }
+}
+
 /// Checks a row, unless this crate has no call for it, and returns whether it did.
 fn check_row(row: &Row) -> bool {
     let text = String::from_utf8_lossy(&row.text);
@@ -239,7 +263,10 @@ fn check_row(row: &Row) -> bool {
         "template" => check_template(row, &text),
         "discover" => check_lists(row, &text),
         "path" => check_path(row, &text),
-        _ => return false,
+        read => match read.strip_prefix("minify ") {
+            Some(choice) => check_minified(row, &text, choice),
+            None => return false,
+        },
     }
     true
 }

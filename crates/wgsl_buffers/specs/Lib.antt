@@ -5,4 +5,5 @@ pub mod Kinds
 pub mod Layouts
 pub mod Trees
 pub mod Calls
+pub mod Minified
 pub mod PrintedTrees

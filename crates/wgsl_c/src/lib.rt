@@ -5,6 +5,7 @@
 
 ghost use Rattle.wgsl_buffers.specs.Calls.{Formats, Tidies, Checks, WritesSnippet, Recognizes, WritesTree, PrintsForm, WritesTokens, WritesTokensWithComments, WritesLists, FindsList, MeasuresNesting};
 ghost use Rattle.wgsl_buffers.specs.Layouts.{layout_of};
+ghost use Rattle.wgsl_buffers.specs.Minified.{Minifies};
 
 use std::alloc::Global;
 use wgsl_buffers::{Answer, Choices, Place, PlacedKind};
@@ -34,6 +35,23 @@ pub extern "C" fn wgsl_c_tidy(
     ensures { Tidies (layout_of choices.now) text.now buffer.old buffer.new answer.new result }
 {
     wgsl_buffers::tidy(alloc, choices, text, buffer, answer)
+}
+
+/// Writes the minified text of a module and, after it, the JSON of its new names: with 0 no name
+/// gets a new one, with 1 those that are declared in functions alone, with 2 all, except those on
+/// the lines of `keep`.
+#[unsafe(no_mangle)]
+pub extern "C" fn wgsl_c_minify(
+    alloc: Global,
+    names: u32,
+    keep: &[u8],
+    text: &[u8],
+    buffer: &mut [u8],
+    answer: &mut Answer,
+) -> u32
+    ensures { Minifies names keep.now text.now buffer.old buffer.new answer.new result }
+{
+    wgsl_buffers::minify(alloc, names, keep, text, buffer, answer)
 }
 
 /// Checks whether a text is a module.

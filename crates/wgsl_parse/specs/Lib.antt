@@ -127,4 +127,14 @@ pub use Rattle.wgsl_model_tidy.specs.Kept as KeptPieces
 pub use Rattle.wgsl_model_tidy.specs.Syntax
 pub use Rattle.wgsl_model_tidy.specs.Tidied
 pub use Rattle.wgsl_format_layout.specs.Layouts
+-- modules minified
+pub use Rattle.wgsl_model_short.specs.Shortened
+pub use Rattle.wgsl_model_minify.specs.NewNames as Renaming
+pub use Rattle.wgsl_model_minify.specs.Renamed as RenamedNames
+pub use Rattle.wgsl_model_minify.specs.Chosen as ChosenNames
+pub use Rattle.wgsl_minify_names.specs.View as ChoiceView
+pub use Rattle.wgsl_tree_renamed.specs.NewNames
+pub use Rattle.wgsl_minify.specs.Hosts as HostNames
+pub use Rattle.wgsl_minify.specs.Prints as ShortPrints
+pub use Rattle.wgsl_minify.specs.Modules as MinifiedModules
 pub use Rattle.wgsl_laws.specs.Hashes

@@ -61,6 +61,12 @@ pub mod tidy {
     pub use wgsl_format::{Indent, Layout, Newlines, tidy, tidy_with, tidy_within};
 }
 
+/// The shortest texts of modules, also with shorter names.
+pub mod minify {
+    pub use wgsl_format_short::{shorten, shorten_within};
+    pub use wgsl_minify::{Minified, MinifyOptions, NewNames, Which, minify, minify_within};
+}
+
 /// What holds of all texts and trees, as contracts of functions that do nothing.
 pub mod laws {
     pub use wgsl_laws::attributes_nodes::statement_attributes;

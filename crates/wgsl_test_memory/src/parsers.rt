@@ -4,6 +4,7 @@ use crate::line::Line;
 use std::alloc::Global;
 use wgsl_parse::error::Error;
 use wgsl_parse::lexer::Lexer;
+use wgsl_parse::minify::{MinifyOptions, Which, minify, shorten};
 use wgsl_parse::parser::{
     ExpressionParser, GlobalDeclParser, GlobalDirectiveParser, LiteralParser, StatementParser,
     TranslationUnitParser, TryTemplateListParser, recognize_template_list,
@@ -34,6 +35,8 @@ pub fn make_call<R: Print + AllocGlobal>(line: &mut Line<'_, R>, call: &str, tex
         "parser::recognize_template_list" => line.call(|| recognize_tokens(alloc, text)),
         "ModulePath::from_str" => line.call(|| ModulePath::from_str(alloc, text)),
         "tidy" => line.call(|| tidy(alloc, text)),
+        "shorten" => line.call(|| shorten(alloc, text)),
+        "minify" => line.call(|| minified(alloc, text)),
         _ => return false,
     }
     true
@@ -42,4 +45,13 @@ pub fn make_call<R: Print + AllocGlobal>(line: &mut Line<'_, R>, call: &str, tex
 /// Whether the tokens of a text are a template list.
 fn recognize_tokens(alloc: Global, text: &str) -> Result<(), Error> {
     recognize_template_list(alloc, Lexer::new(alloc, text)?)
+}
+
+/// The minified text, in which a name stays.
+fn minified(alloc: Global, text: &str) -> Result<String, Error> {
+    let options = MinifyOptions {
+        names: Which::All,
+        keep: &["f"],
+    };
+    Ok(minify(alloc, text, options)?.text)
 }

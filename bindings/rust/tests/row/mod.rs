@@ -38,7 +38,7 @@ fn rows_of(name: &str, data: &str) -> Vec<Row> {
         }
         let mut lines = joined.into_iter();
         let Some(first) = lines.next() else { continue };
-        let Some((read, text)) = first.split_once(' ') else {
+        let Some((read, text)) = first.find('"').map(|start| first.split_at(start)) else {
             continue;
         };
         let split = |line: String| match line.split_once(' ') {
@@ -47,8 +47,8 @@ fn rows_of(name: &str, data: &str) -> Vec<Row> {
         };
         rows.push(Row {
             place: format!("{name}, part {index}: {first}"),
-            read: read.to_owned(),
-            text: texts_of(text.trim_start_matches(|c| c != '"')),
+            read: read.trim_end().to_owned(),
+            text: texts_of(text),
             wanted: lines.map(split).collect(),
         });
     }
