@@ -16,7 +16,7 @@ use std::alloc::{AllocError, Global};
 use wgsl_error::{Error, ErrorKind};
 use wgsl_minify::{Minified, MinifyOptions, minify_within};
 
-/// How many levels deep a module may nest: a level takes at most 2,750 bytes of a stack of 8 MB.
+/// How many levels deep a module may nest: a level takes at most 2,900 bytes of a stack of 8 MB.
 const DEPTH: usize = 1_000;
 
 /// Returns the name of the file at a path in messages.
