@@ -4,3 +4,4 @@ pub mod Refused
 pub mod PrintedKinds
 pub mod Forms
 pub mod PrintedForms
+pub mod Valid

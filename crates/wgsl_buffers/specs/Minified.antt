@@ -23,6 +23,7 @@ with_names size start = record { size = size; start = start; end = size; kind = 
 pub record AreMinified (which : Which) (keep source bytes : List ℕ) (answer : Answer) : Type 0 where
   pub text : List ℕ
   pub table : List (List ℕ × List ℕ)
+  pub valid : IsUtf8 text
   pub minified : IsMinified which (lines keep) (chars source) table (chars text)
   pub parts : bytes ≡ text ++ map_form table
   pub places : answer ≡ with_names (length bytes) (length text)

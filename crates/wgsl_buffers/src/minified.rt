@@ -1,6 +1,7 @@
 //! Modules minified, with their new names.
 
 ghost use Rattle.std.specs.Prelude.{◌≡◌, ◌≤◌, ◌<◌, ◌⊎◌, ◌++◌, ℕ, List, IfErr, IfOk, MatchOption, chars, length, string_bytes, take};
+ghost use Rattle.std.specs.Str.{IsUtf8};
 ghost use Rattle.std.specs.Str.Lines.{lines};
 ghost use Rattle.wgsl_error.specs.View.{fault_view};
 ghost use Rattle.wgsl_minify.specs.Modules.{IsMinified};
@@ -47,10 +48,12 @@ fn lines_of<'t>(alloc: Global, text: &'t str) -> Result<Vec<&'t str>, AllocError
 }
 
 /// The minified text of a module, in which the names on these lines stay, and its new names.
+#[tactic(auto, using(crate::proofs::Valid::valid))]
 fn minified(alloc: Global, source: &str, names: Which, keep: &str) -> Result<TextAndNames, Error>
     ensures accepted { IfOk result (λ it. (text : List ℕ) × (table : List (List ℕ × List ℕ))
         × IsMinified (which_view names) (lines keep.now) (chars source.now) table (chars text)
-        × (string_bytes it.both ≡ text ++ map_form table) × (it.names ≡ length text)) }
+        × (string_bytes it.both ≡ text ++ map_form table) × (it.names ≡ length text)
+        × IsUtf8 text) }
     ensures refused { IfErr result (λ e.
         IsOutOfMemory e ⊎ IsFaultOf (chars source.now) (fault_view e)) }
     ensures placed { IfErr result (λ e. StandsWithin e.span (length source.now)) }
