@@ -5,3 +5,4 @@ pub mod PrintedKinds
 pub mod Forms
 pub mod PrintedForms
 pub mod Valid
+pub mod PackedKinds

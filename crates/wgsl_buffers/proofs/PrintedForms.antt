@@ -7,6 +7,7 @@ use Rattle.wgsl_model.specs.Printed.Expressions.{print_expression, print_express
 use Rattle.wgsl_model.specs.Printed.Statements.{print_statement}
 use Rattle.wgsl_model.specs.Printed.Units.{print_directive, print_global_declaration, print_unit}
 use Rattle.wgsl_model.specs.SourceTrees.{IsTreeOf}
+use Rattle.wgsl_model.specs.Trees.Units.{TranslationUnit}
 use Rattle.wgsl_model.specs.Trees.Expressions.{expression_node}
 use Rattle.wgsl_model.specs.Trees.Statements.{statement_node}
 use Rattle.wgsl_theory_grammar.proofs.Tokens.Places.{bytes_width}
@@ -16,8 +17,8 @@ use Rattle.wgsl_buffers.specs.declared.answer.Answer.{Answer}
 use Rattle.wgsl_buffers.specs.Answers.{Holds, Lacks}
 use Rattle.wgsl_buffers.specs.Kinds.{a_declaration, a_directive, a_module, a_statement, an_expression}
 use Rattle.wgsl_buffers.specs.PrintedTrees.{print_bare_statement, PrintsTheTree}
-use Rattle.wgsl_buffers.specs.Trees.{declaration_tree, directive_tree, expression_tree, module_tree, statement_tree, IsFormOf}
-use Rattle.wgsl_buffers.specs.Calls.{Formats, PrintsForm, Reads}
+use Rattle.wgsl_buffers.specs.Trees.{declaration_tree, directive_tree, expression_tree, module_tree, statement_tree, IsFormOf, IsPackedOf}
+use Rattle.wgsl_buffers.specs.Calls.{Formats, PrintsForm, PrintsPacked, Reads}
 
 -- a tree whose numbers fit, as those of the trees of a text do
 fits : (n : Symbol) (text : List ℕ) (v : Value n) → IsUtf8 text → length text < 2 ^ 64
@@ -67,6 +68,20 @@ read_text text answer result valid status = record {
   valid = λ _. valid;
 }
 
+-- a result that has the printed text of the unit that a text is, or its length
+unit_formatted : (text before buffer : List ℕ) (answer : Answer) (result : ℕ) (u : TranslationUnit)
+    → IsUtf8 text → (result ≡ 0) ⊎ (result ≡ 4) → IsTreeOf symbols.unit (chars text) u
+    → (result ≡ 0 → Holds (print_unit u) buffer answer)
+    → (result ≡ 4 → Lacks (print_unit u) before buffer answer)
+    → Formats text before buffer answer result
+unit_formatted text before buffer answer result u valid status tree holds lacks = record {
+  printed = λ e. (u, tree, holds e);
+  refused = λ e. absurd (omega (arith, status, e));
+  small = λ e. (u, tree, lacks e);
+  status = omega (arith, status);
+  reads = read_text text answer result valid status;
+}
+
 pub as_formatted : (text form before buffer : List ℕ) (answer : Answer) (result : ℕ)
     → IsUtf8 text → length text < 2 ^ 64 → IsFormOf module_tree (chars text) form
     → (result ≡ 0) ⊎ (result ≡ 4)
@@ -74,20 +89,17 @@ pub as_formatted : (text form before buffer : List ℕ) (answer : Answer) (resul
 as_formatted text form before buffer answer result valid small is_form (inl done) prints =
     let p = prints.printed done in
     let u = module_printed text form p.0 valid small is_form p.1 in
-    record {
-      printed = λ e. (u.0, u.1, subst (λ t. Holds t buffer answer) u.2 p.2);
-      refused = λ e. absurd (omega (arith, done, e));
-      small = λ e. absurd (omega (arith, done, e));
-      status = omega (arith, done);
-      reads = read_text text answer result valid (inl done);
-    }
+    unit_formatted text before buffer answer result u.0 valid (inl done) u.1
+    (λ e. subst (λ t. Holds t buffer answer) u.2 p.2) (λ e. absurd (omega (arith, done, e)))
 as_formatted text form before buffer answer result valid small is_form (inr lacks) prints =
     let p = prints.small lacks in
     let u = module_printed text form p.0 valid small is_form p.1 in
-    record {
-      printed = λ e. absurd (omega (arith, lacks, e));
-      refused = λ e. absurd (omega (arith, lacks, e));
-      small = λ e. (u.0, u.1, subst (λ t. Lacks t before buffer answer) u.2 p.2);
-      status = omega (arith, lacks);
-      reads = read_text text answer result valid (inr lacks);
-    }
+    unit_formatted text before buffer answer result u.0 valid (inr lacks) u.1
+    (λ e. absurd (omega (arith, lacks, e))) (λ e. subst (λ t. Lacks t before buffer answer) u.2 p.2)
+
+pub packed_as_formatted : (text form before buffer : List ℕ) (answer : Answer) (result : ℕ)
+    → IsUtf8 text → IsPackedOf module_tree (chars text) form → (result ≡ 0) ⊎ (result ≡ 4)
+    → PrintsPacked form before buffer answer result → Formats text before buffer answer result
+packed_as_formatted text form before buffer answer result valid (u, tree, e) status prints =
+    unit_formatted text before buffer answer result u valid status tree
+    (λ done. prints.printed done a_module u e) (λ lacks. prints.small lacks a_module u e)

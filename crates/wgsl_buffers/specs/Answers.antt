@@ -16,6 +16,10 @@ use Rattle.wgsl_buffers.specs.declared.answer.Answer.{Answer}
 abbrev pub counted : ℕ → Answer
 counted n = record { size = n; start = 0; end = 0; kind = 0; expected = 0 }
 
+-- the kind of a fault, and nothing else
+abbrev pub of_kind : ℕ → Answer
+of_kind k = record { size = 0; start = 0; end = 0; kind = k; expected = 0 }
+
 -- a place, and nothing else
 abbrev pub at_place : ℕ → Answer
 at_place p = record { size = 0; start = p; end = p; kind = 0; expected = 0 }

@@ -1,6 +1,6 @@
 -- What each call promises of a text, of the buffer before it and after it, of its answer and of its
 -- status.
-use Rattle.std.specs.Prelude.{◌≡◌, ◌⊎◌, ◌≤◌, ◌<◌, ℕ, List, chars, length}
+use Rattle.std.specs.Prelude.{◌≡◌, ◌≢◌, ◌⊎◌, ◌≤◌, ◌<◌, ℕ, List, chars, length}
 use Rattle.std.specs.Str.{IsUtf8}
 use Rattle.grammar.specs.Tokens as grammar
 use Rattle.grammar.specs.Endings.{Ending, Ending.finished, Ending.carried}
@@ -19,11 +19,11 @@ use Rattle.wgsl_read_nesting.specs.Nesting.{nesting}
 use Rattle.wgsl_buffers.specs.declared.answer.Answer.{Answer}
 use Rattle.wgsl_buffers.specs.declared.lists.Place.{Place}
 use Rattle.wgsl_buffers.specs.declared.tokens.PlacedKind.{PlacedKind}
-use Rattle.wgsl_buffers.specs.Answers.{counted, Refuses, RefusesWithLines, Holds, Lacks, RefusesForm, IsNoText}
+use Rattle.wgsl_buffers.specs.Answers.{counted, of_kind, Refuses, RefusesWithLines, Holds, Lacks, RefusesForm, IsNoText}
 use Rattle.wgsl_buffers.specs.Items.{count_of, counted_to, HoldItems, kind_and_place, token_items, start_and_end, ArePlaces}
 use Rattle.wgsl_buffers.specs.Comments.{AreTokensAndComments}
-use Rattle.wgsl_buffers.specs.Kinds.{IsPrint, kind_of}
-use Rattle.wgsl_buffers.specs.Trees.{tree_of, IsFormOf}
+use Rattle.wgsl_buffers.specs.Kinds.{Kind, IsNoForm, IsPrint, kind_of, printing_of}
+use Rattle.wgsl_buffers.specs.Trees.{Tree, tree_of, IsFormOf, IsPackedOf}
 
 -- what each call promises: 2 only for bytes that are no text, and 3 with nothing in the answer
 pub record Reads (text : List ℕ) (answer : Answer) (result : ℕ) : Type 0 where
@@ -73,25 +73,47 @@ pub record Recognizes (text before buffer : List ℕ) (answer : Answer) (result 
   pub status : result ≤ 3
   pub reads : Reads text answer result
 
--- the text form of the tree with a number that a text derives, or the fault that is named
-pub record WritesTree (what : ℕ) (text before buffer : List ℕ) (answer : Answer) (result : ℕ) : Type 0 where
-  pub accepted : result ≡ 0 → (form : List ℕ) × IsFormOf (tree_of what) (chars text) form × Holds form buffer answer
+-- a form of the tree with a number that a text derives, or the fault that is named
+pub record WritesForm (IsForm : Tree → List ℕ → List ℕ → Type 0) (what : ℕ) (text before buffer : List ℕ)
+    (answer : Answer) (result : ℕ) : Type 0 where
+  pub accepted : result ≡ 0 → (form : List ℕ) × IsForm (tree_of what) (chars text) form × Holds form buffer answer
   pub refused : result ≡ 1 → Refuses (IsFaultIn (tree_of what).symbol) text before buffer answer
-  pub small : result ≡ 4 → (form : List ℕ) × IsFormOf (tree_of what) (chars text) form × Lacks form before buffer answer
+  pub small : result ≡ 4 → (form : List ℕ) × IsForm (tree_of what) (chars text) form × Lacks form before buffer answer
   pub unknown : result ≡ 5 → (4 < what) × (answer ≡ counted 0)
   pub known : 4 < what → (result ≡ 2) ⊎ (result ≡ 5)
   pub status : result ≤ 5
   pub reads : Reads text answer result
 
--- the printed text of the node of a kind that a form describes
+-- the text form
+abbrev pub WritesTree : ℕ → List ℕ → List ℕ → List ℕ → Answer → ℕ → Type 0
+WritesTree = WritesForm IsFormOf
+
+-- the packed form
+abbrev pub WritesPackedTree : ℕ → List ℕ → List ℕ → List ℕ → Answer → ℕ → Type 0
+WritesPackedTree = WritesForm IsPackedOf
+
+-- the printed text of the node of a kind that a form describes; 1 only for bytes that are not the form
+-- of such a node
 pub record PrintsForm (what : ℕ) (form before buffer : List ℕ) (answer : Answer) (result : ℕ) : Type 0 where
   pub printed : result ≡ 0 → (text : List ℕ) × IsPrint (kind_of what) form text × Holds text buffer answer
-  pub refused : result ≡ 1 → RefusesForm before buffer answer
+  pub refused : result ≡ 1 → IsNoForm (kind_of what) form × RefusesForm before buffer answer
   pub small : result ≡ 4 → (text : List ℕ) × IsPrint (kind_of what) form text × Lacks text before buffer answer
   pub unknown : result ≡ 5 → (16 < what) × (answer ≡ counted 0)
   pub known : 16 < what → (result ≡ 2) ⊎ (result ≡ 5)
   pub status : result ≤ 5
   pub reads : Reads form answer result
+
+-- the printed text of the node of which the form is the packed one, unless an allocation fails
+pub record PrintsPacked (form before buffer : List ℕ) (answer : Answer) (result : ℕ) : Type 0 where
+  pub printed : result ≡ 0 → (kind : Kind) (node : (printing_of kind).Node)
+      → form ≡ (printing_of kind).packed node → Holds ((printing_of kind).print node) buffer answer
+  pub refused : result ≡ 1 → (kind : Kind) (node : (printing_of kind).Node)
+      → form ≢ (printing_of kind).packed node
+  pub told : result ≡ 1 → (buffer ≡ before) × (answer ≡ of_kind 10)
+  pub memory : result ≡ 3 → answer ≡ counted 0
+  pub small : result ≡ 4 → (kind : Kind) (node : (printing_of kind).Node)
+      → form ≡ (printing_of kind).packed node → Lacks ((printing_of kind).print node) before buffer answer
+  pub status : (result ≤ 1) ⊎ ((result ≡ 3) ⊎ (result ≡ 4))
 
 -- the items that are written of the tokens of a text before its end or its first invalid token
 pub record WritesItems (AreItems : List grammar.Token → List (ℕ × ℕ × ℕ) → Type 0)

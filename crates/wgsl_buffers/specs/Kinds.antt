@@ -1,5 +1,5 @@
 -- The kinds of nodes that are printed from their text forms, by their numbers.
-use Rattle.std.specs.Prelude.{◌≡◌, ◌==◌, ℕ, List, if◌then◌else◌}
+use Rattle.std.specs.Prelude.{◌≡◌, ◌≢◌, ◌==◌, ℕ, List, if◌then◌else◌}
 use Rattle.wgsl_model.specs.Printed.Units.{print_unit, print_directive, print_global_declaration, print_member, print_parameter}
 use Rattle.wgsl_model.specs.Printed.Statements.{print_statement, print_if_clause, print_else_if_clause, print_else_clause, print_switch_clause, print_continuing}
 use Rattle.wgsl_model.specs.Printed.Declarations.{print_attributed, print_kind, print_break_if, print_selector}
@@ -12,6 +12,11 @@ use Rattle.wgsl_tree_code.specs.StatementNodes.{statement_code, selector_code, d
 use Rattle.wgsl_tree_code.specs.ExpressionNodes.{expression_code}
 use Rattle.wgsl_tree_code.specs.AttributeNodes.{attribute_code, type_constraint_code}
 use Rattle.wgsl_form_laws.specs.Unique.{Fits}
+use Rattle.wgsl_form_trees.specs.Held.{IsHeld}
+use Rattle.wgsl_model_packed.specs.Expressions.{packed_expression}
+use Rattle.wgsl_model_packed.specs.Attributes.{packed_attribute, packed_type_constraint}
+use Rattle.wgsl_model_packed.specs.Statements.{packed_statement, packed_kind, packed_selector, packed_if_clause, packed_else_if_clause, packed_else_clause, packed_switch_clause, packed_continuing, packed_break_if}
+use Rattle.wgsl_model_packed.specs.Units.{packed_unit, packed_directive, packed_global_declaration, packed_member, packed_parameter}
 
 -- the form is that of the node, and of no other node whose numbers fit in 64 bits
 abbrev pub Describes : {Node : Type 0} → (Node → Code) → List ℕ → Node → Type 0
@@ -63,22 +68,45 @@ kind_of n =
     else if n == 15 then a_break_if
     else a_type_constraint
 
--- the same of a node of a kind
+-- the nodes of a kind, their forms, and what is printed of each
+pub record Printing : Type 1 where
+  pub Node : Type 0
+  pub code : Node → Code
+  pub packed : Node → List ℕ
+  pub print : Node → List ℕ
+
+abbrev pub printing : {Node : Type 0} → (Node → Code) → (Node → List ℕ) → (Node → List ℕ) → Printing
+printing {Node = Node} code packed print =
+    record { Node = Node; code = code; packed = packed; print = print }
+
+abbrev pub printing_of : Kind → Printing
+printing_of a_module = printing unit_code packed_unit print_unit
+printing_of a_directive = printing global_directive_code packed_directive print_directive
+printing_of a_declaration = printing global_declaration_code packed_global_declaration print_global_declaration
+printing_of a_statement = printing statement_code packed_statement print_statement
+printing_of an_expression = printing expression_code packed_expression print_expression
+printing_of an_attribute = printing attribute_code packed_attribute print_attribute
+printing_of a_member = printing member_code packed_member print_member
+printing_of a_parameter = printing parameter_code packed_parameter print_parameter
+printing_of a_declaration_kind = printing declaration_kind_code packed_kind print_kind
+printing_of a_selector = printing selector_code packed_selector print_selector
+printing_of an_if_clause = printing if_clause_code packed_if_clause print_if_clause
+printing_of an_else_if_clause = printing else_if_clause_code packed_else_if_clause print_else_if_clause
+printing_of an_else_clause = printing else_clause_code packed_else_clause print_else_clause
+printing_of a_switch_clause = printing switch_clause_code packed_switch_clause print_switch_clause
+printing_of a_continuing = printing continuing_code packed_continuing print_continuing
+printing_of a_break_if = printing (attributed_code break_if_code) packed_break_if (print_attributed print_break_if)
+printing_of a_type_constraint = printing type_constraint_code packed_type_constraint print_type_constraint
+
+-- the printed text of the node of a kind that a form describes
 abbrev pub IsPrint : Kind → List ℕ → List ℕ → Type 0
-IsPrint a_module = IsPrintOf unit_code print_unit
-IsPrint a_directive = IsPrintOf global_directive_code print_directive
-IsPrint a_declaration = IsPrintOf global_declaration_code print_global_declaration
-IsPrint a_statement = IsPrintOf statement_code print_statement
-IsPrint an_expression = IsPrintOf expression_code print_expression
-IsPrint an_attribute = IsPrintOf attribute_code print_attribute
-IsPrint a_member = IsPrintOf member_code print_member
-IsPrint a_parameter = IsPrintOf parameter_code print_parameter
-IsPrint a_declaration_kind = IsPrintOf declaration_kind_code print_kind
-IsPrint a_selector = IsPrintOf selector_code print_selector
-IsPrint an_if_clause = IsPrintOf if_clause_code print_if_clause
-IsPrint an_else_if_clause = IsPrintOf else_if_clause_code print_else_if_clause
-IsPrint an_else_clause = IsPrintOf else_clause_code print_else_clause
-IsPrint a_switch_clause = IsPrintOf switch_clause_code print_switch_clause
-IsPrint a_continuing = IsPrintOf continuing_code print_continuing
-IsPrint a_break_if = IsPrintOf (attributed_code break_if_code) (print_attributed print_break_if)
-IsPrint a_type_constraint = IsPrintOf type_constraint_code print_type_constraint
+IsPrint kind = IsPrintOf (printing_of kind).code (printing_of kind).print
+
+-- the form is not that of a node that trees have
+abbrev pub IsNoFormOf : {Node : Type 0} → (Node → Code) → List ℕ → Type 0
+IsNoFormOf {Node = Node} code form =
+    (node : Node) → IsHeld (code node) → form ≢ text_form.form (code node)
+
+-- the same of the nodes of a kind
+abbrev pub IsNoForm : Kind → List ℕ → Type 0
+IsNoForm kind = IsNoFormOf (printing_of kind).code

@@ -83,17 +83,25 @@ pub fn give(bytes: &[u8], buffer: &mut [u8]) -> bool
     true
 }
 
+/// Gives bytes as the result of a call, and returns the status.
+pub fn tell_bytes(bytes: &[u8], buffer: &mut [u8], answer: &mut Answer) -> u32
+    ensures { ((result ≡ 0) × Holds bytes.now buffer.new answer.new) ⊎
+        ((result ≡ 4) × Lacks bytes.now buffer.old buffer.new answer.new) }
+{
+    *answer = Answer::of_size(bytes.len());
+    if give(bytes, buffer) {
+        DONE
+    } else {
+        TOO_SMALL
+    }
+}
+
 /// Gives a text as the result of a call, and returns the status.
 pub fn tell_text(text: &str, buffer: &mut [u8], answer: &mut Answer) -> u32
     ensures { ((result ≡ 0) × Holds text.now buffer.new answer.new) ⊎
         ((result ≡ 4) × Lacks text.now buffer.old buffer.new answer.new) }
 {
-    *answer = Answer::of_size(text.len());
-    if give(text.as_bytes(), buffer) {
-        DONE
-    } else {
-        TOO_SMALL
-    }
+    tell_bytes(text.as_bytes(), buffer, answer)
 }
 
 /// Gives a number as the result of a call, and returns the status.

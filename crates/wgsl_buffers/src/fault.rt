@@ -3,7 +3,8 @@
 ghost use Rattle.std.specs.Prelude.{◌≡◌, ◌⊎◌, ◌++◌, IfOk, OnOk, map, flat_map, string_bytes};
 ghost use Rattle.wgsl_error.specs.View.{kind_number, expected_texts};
 ghost use Rattle.wgsl_error.specs.declared.ErrorKind.TheVariants as kinds;
-ghost use Rattle.wgsl_buffers.specs.Answers.{counted, nul_terminated, fault_texts, RefusesForm, TellsError, TellsTexts};
+ghost use Rattle.wgsl_form_reader.specs.declared.error.FormErrorKind.TheVariants as reasons;
+ghost use Rattle.wgsl_buffers.specs.Answers.{counted, nul_terminated, of_kind, fault_texts, RefusesForm, TellsError, TellsTexts};
 
 use crate::answer::{Answer, REFUSED, give, refuse_memory};
 use std::alloc::{AllocError, Global};
@@ -102,6 +103,7 @@ pub fn tell_form_error(
     answer: &mut Answer,
 ) -> u32
     ensures refused { result ≡ 1 → RefusesForm buffer.old buffer.new answer.new }
+    ensures named { result ≡ 1 → ¬ (error.kind ≡ reasons.OutOfMemory) }
     ensures memory { result ≡ 3 → answer.new ≡ counted 0 }
     ensures status { (result ≡ 1) ⊎ (result ≡ 3) }
 {
@@ -120,5 +122,20 @@ pub fn tell_form_error(
         expected: 0,
     };
     give(message.as_bytes(), buffer);
+    REFUSED
+}
+
+/// Reports that bytes are not a packed form, and returns the status.
+pub fn refuse_packed(answer: &mut Answer) -> u32
+    ensures status { result ≡ 1 }
+    ensures kind { answer.new ≡ of_kind 10 }
+{
+    *answer = Answer {
+        size: 0,
+        start: 0,
+        end: 0,
+        kind: NOT_A_FORM,
+        expected: 0,
+    };
     REFUSED
 }

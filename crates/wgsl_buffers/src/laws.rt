@@ -1,4 +1,4 @@
-//! Laws of the calls that write trees by their text form and print them.
+//! Laws of the calls that write trees by their forms and print them.
 
 ghost use Rattle.std.specs.Prelude.{◌≡◌, ◌⊎◌, ◌<◌, ◌^◌, ℕ, List, chars, length};
 ghost use Rattle.std.specs.Str.{IsUtf8};
@@ -7,8 +7,8 @@ ghost use Rattle.wgsl_model.specs.Printed.Units.{print_directive, print_global_d
 ghost use Rattle.wgsl_buffers.specs.declared.answer.Answer.{Answer};
 ghost use Rattle.wgsl_buffers.specs.Kinds.{a_declaration, a_directive, a_module, a_statement, an_expression};
 ghost use Rattle.wgsl_buffers.specs.PrintedTrees.{print_bare_statement, PrintsTheTree};
-ghost use Rattle.wgsl_buffers.specs.Trees.{declaration_tree, directive_tree, expression_tree, module_tree, statement_tree, IsFormOf};
-ghost use Rattle.wgsl_buffers.specs.Calls.{Formats, PrintsForm};
+ghost use Rattle.wgsl_buffers.specs.Trees.{declaration_tree, directive_tree, expression_tree, module_tree, statement_tree, IsFormOf, IsPackedOf};
+ghost use Rattle.wgsl_buffers.specs.Calls.{Formats, PrintsForm, PrintsPacked};
 
 /// What is printed of the form of the tree of a text is the printed text of that tree.
 pub fn printed_trees()
@@ -27,4 +27,12 @@ pub fn printed_form()
         → IsUtf8 text → length text < 2 ^ 64 → IsFormOf module_tree (chars text) form
         → (result ≡ 0) ⊎ (result ≡ 4)
         → PrintsForm 0 form before buffer answer result → Formats text before buffer answer result }
+{}
+
+/// Printing the packed form of the module that a text is returns what formatting the text returns,
+/// if it returns a text or its length.
+pub fn printed_packed()
+    ensures { (text form before buffer : List ℕ) (answer : Answer) (result : ℕ)
+        → IsUtf8 text → IsPackedOf module_tree (chars text) form → (result ≡ 0) ⊎ (result ≡ 4)
+        → PrintsPacked form before buffer answer result → Formats text before buffer answer result }
 {}

@@ -1,8 +1,9 @@
 //! Nodes printed from their text forms.
 
-ghost use Rattle.std.specs.Prelude.{◌≡◌, ◌≤◌, ◌<◌, IfOk, IfSome, MatchOption, string_bytes};
+ghost use Rattle.std.specs.Prelude.{◌≡◌, ◌⊎◌, ◌≤◌, ◌<◌, IfErr, IfOk, IfSome, MatchOption, string_bytes};
 ghost use Rattle.wgsl_tree_code.specs.Form as text_form;
-ghost use Rattle.wgsl_buffers.specs.Kinds.{IsPrint, kind_of};
+ghost use Rattle.wgsl_form_reader.specs.declared.error.FormErrorKind.TheVariants as reasons;
+ghost use Rattle.wgsl_buffers.specs.Kinds.{IsNoForm, IsNoFormOf, IsPrint, kind_of};
 ghost use Rattle.wgsl_buffers.specs.Calls.{PrintsForm};
 
 use crate::answer::{Answer, NOT_UTF8, UNKNOWN, tell_text, text_of};
@@ -26,8 +27,10 @@ fn printed<T: FromForm + fmt::Display + Drop>(
     alloc: Global,
     form: &str,
 ) -> Result<String, FormError>
-    ensures { IfOk result (λ text. (node : T) × (form.now ≡ text_form.form (T.code (T.view node)))
+    ensures printed { IfOk result (λ text. (node : T) × (form.now ≡ text_form.form (T.code (T.view node)))
         × IfSome (T.output node) (λ print. string_bytes text ≡ print)) }
+    ensures refused { IfErr result (λ error. (error.kind ≡ reasons.OutOfMemory)
+        ⊎ IsNoFormOf T.code form.now) }
 {
     let node: T = from_form(alloc, form)?;
     Ok(node.to_string(alloc)?)
@@ -36,7 +39,9 @@ fn printed<T: FromForm + fmt::Display + Drop>(
 /// The printed text of the node of the kind that has a number, if one has.
 fn printed_kind(alloc: Global, what: u32, form: &str) -> Option<Result<String, FormError>>
     ensures { MatchOption result (16 < what) (λ printed. (what ≤ 16)
-        × IfOk printed (λ text. IsPrint (kind_of what) form.now (string_bytes text))) }
+        × IfOk printed (λ text. IsPrint (kind_of what) form.now (string_bytes text))
+        × IfErr printed (λ error. (error.kind ≡ reasons.OutOfMemory)
+        ⊎ IsNoForm (kind_of what) form.now)) }
 {
     match what {
         0 => Some(printed::<TranslationUnit>(alloc, form)),

@@ -3,7 +3,7 @@
 //! what a caller owes.
 #![tactic(auto)]
 
-ghost use Rattle.wgsl_buffers.specs.Calls.{Formats, Tidies, Checks, WritesSnippet, Recognizes, WritesTree, PrintsForm, WritesTokens, WritesTokensWithComments, WritesLists, FindsList, MeasuresNesting};
+ghost use Rattle.wgsl_buffers.specs.Calls.{Formats, Tidies, Checks, WritesSnippet, Recognizes, WritesTree, WritesPackedTree, PrintsForm, PrintsPacked, WritesTokens, WritesTokensWithComments, WritesLists, FindsList, MeasuresNesting};
 ghost use Rattle.wgsl_buffers.specs.Layouts.{layout_of};
 ghost use Rattle.wgsl_buffers.specs.Minified.{Minifies};
 
@@ -126,6 +126,34 @@ pub extern "C" fn wgsl_c_print(
     ensures { PrintsForm what form.now buffer.old buffer.new answer.new result }
 {
     wgsl_buffers::print_form(alloc, what, form, buffer, answer)
+}
+
+/// Writes the tree that a text is, by its packed form: 0 asks for a module, 1 for a directive, 2
+/// for a declaration, 3 for a statement, 4 for an expression.
+#[unsafe(no_mangle)]
+pub extern "C" fn wgsl_c_packed_tree(
+    alloc: Global,
+    what: u32,
+    text: &[u8],
+    buffer: &mut [u8],
+    answer: &mut Answer,
+) -> u32
+    ensures { WritesPackedTree what text.now buffer.old buffer.new answer.new result }
+{
+    wgsl_buffers::write_packed_tree(alloc, what, text, buffer, answer)
+}
+
+/// Writes the printed text of the node that has a packed form.
+#[unsafe(no_mangle)]
+pub extern "C" fn wgsl_c_print_packed(
+    alloc: Global,
+    form: &[u8],
+    buffer: &mut [u8],
+    answer: &mut Answer,
+) -> u32
+    ensures { PrintsPacked form.now buffer.old buffer.new answer.new result }
+{
+    wgsl_buffers::print_packed(alloc, form, buffer, answer)
 }
 
 /// Writes the tokens of a text, as many as fit.
