@@ -8,12 +8,12 @@ int main(void) {
     const char *text = "const N=0x1f;";
     size_t size = strlen(text);
     struct wgsl_answer answer;
-    char room[4096];
-    uint32_t status = wgsl_format(text, size, room, sizeof room, &answer);
+    char buffer[4096];
+    uint32_t status = wgsl_format(text, size, buffer, sizeof buffer, &answer);
     if (status == WGSL_DONE) {
-        fwrite(room, 1, answer.size, stdout);
-    } else if (status == WGSL_REFUSED && answer.size <= sizeof room) {
-        fprintf(stderr, "%zu..%zu: %s\n", answer.start, answer.end, room);
+        fwrite(buffer, 1, answer.size, stdout);
+    } else if (status == WGSL_REFUSED && answer.size <= sizeof buffer) {
+        fprintf(stderr, "%zu..%zu: %s\n", answer.start, answer.end, buffer);
     }
     return (int)status;
 }
