@@ -1,12 +1,8 @@
 -- What the packed form of a node of each kind prints.
-use Rattle.std.proofs.Common.{ℕ, ◌≡◌, ◌⊎◌, inl, inr, ◌∙◌, sym, ap, subst, List, [], ◌++◌, codes, arith}
-use Rattle.std.proofs.lemmas.List.{append-nil}
-use Rattle.std.specs.Str.{IsUtf8, chars}
-use Rattle.std.specs.Prelude.{◌<◌, ◌^◌, length}
-use Rattle.wgsl_model.specs.Printed.Indentation.{after_line_ends}
-use Rattle.wgsl_writer.proofs.Within.{after_nothing}
-use Rattle.wgsl_model_packed.specs.Printing.{Prints, ended}
+use Rattle.std.proofs.Common.{ℕ, ◌≡◌, sym, subst, List, [], codes}
+use Rattle.wgsl_model_packed.specs.Printing.{Prints}
 use Rattle.wgsl_theory_packed.specs.Shown.{Shows}
+use Rattle.wgsl_theory_packed.proofs.Shown.{shown_alone}
 use Rattle.wgsl_theory_packed.proofs.Expressions.{shows_expression}
 use Rattle.wgsl_theory_packed.proofs.Attributes.{shows_attribute, shows_type_constraint}
 use Rattle.wgsl_theory_packed.proofs.Declarations.{shows_kind, shows_selector, shows_break_if}
@@ -16,36 +12,27 @@ use Rattle.wgsl_buffers.specs.Kinds.{Kind, a_module, a_directive, a_declaration,
 
 shown : (kind : Kind) (node : (printing_of kind).Node)
     → Shows 0 (codes "$") ((printing_of kind).packed node) ((printing_of kind).print node)
-shown a_module u = shows_unit 0 u
-shown a_directive d = shows_directive 0 d
-shown a_declaration d = shows_global_declaration 0 d
-shown a_statement s = shows_statement 0 s
-shown an_expression e = shows_expression 0 e
-shown an_attribute a = shows_attribute 0 a
-shown a_member m = shows_member 0 m
-shown a_parameter p = shows_parameter 0 p
-shown a_declaration_kind k = shows_kind 0 k
-shown a_selector s = shows_selector 0 s
-shown an_if_clause c = shows_if_clause 0 c
-shown an_else_if_clause c = shows_else_if_clause 0 c
-shown an_else_clause c = shows_else_clause 0 c
-shown a_switch_clause c = shows_switch_clause 0 c
-shown a_continuing c = shows_continuing 0 c
-shown a_break_if b = shows_break_if 0 b
-shown a_type_constraint t = shows_type_constraint 0 t
-
--- what is printed whatever follows is printed where nothing does
-whole : (form text : List ℕ) → Shows 0 (codes "$") form text → Prints 0 (codes "$") form text []
-whole form text shows =
-    let one = shows [] [] [] [] ended in
-    let same_form = append-nil form in
-    let same_text = append-nil (after_line_ends [] text) ∙ after_nothing text in
-    subst (λ t. Prints 0 (codes "$") form t []) same_text
-    (subst (λ f. Prints 0 (codes "$") f (after_line_ends [] text ++ []) []) same_form one)
+shown a_module u = shows_unit u
+shown a_directive d = shows_directive d
+shown a_declaration d = shows_global_declaration d
+shown a_statement s = shows_statement s
+shown an_expression e = shows_expression e
+shown an_attribute a = shows_attribute a
+shown a_member m = shows_member m
+shown a_parameter p = shows_parameter p
+shown a_declaration_kind k = shows_kind k
+shown a_selector s = shows_selector s
+shown an_if_clause c = shows_if_clause c
+shown an_else_if_clause c = shows_else_if_clause c
+shown an_else_clause c = shows_else_clause c
+shown a_switch_clause c = shows_switch_clause c
+shown a_continuing c = shows_continuing c
+shown a_break_if b = shows_break_if b
+shown a_type_constraint t = shows_type_constraint t
 
 -- the packed form of a node of a kind prints what is printed of the node
 pub packed_prints : (kind : Kind) (node : (printing_of kind).Node) (form : List ℕ)
     → form ≡ (printing_of kind).packed node → Prints 0 (codes "$") form ((printing_of kind).print node) []
 packed_prints kind node form e =
     subst (λ f. Prints 0 (codes "$") f ((printing_of kind).print node) []) (sym e)
-    (whole _ _ (shown kind node))
+    (shown_alone (shown kind node))
