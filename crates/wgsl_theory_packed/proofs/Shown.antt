@@ -1,0 +1,109 @@
+-- Texts whose places are filled one after another.
+use Rattle.std.proofs.Common.{ℕ, ◌≡◌, refl, sym, ap, ◌∙◌, subst, Bool, true, false, ◌==◌, ◌&&◌, if◌then◌else◌, List, [], ◌∷◌, ◌++◌, Option, Some, codes, true≢false}
+use Rattle.std.proofs.lemmas.List.{append_assoc, append-nil}
+use Rattle.std.proofs.lemmas.Bool.{and_parts}
+use Rattle.grammar.specs.Tokens.{Span}
+use Rattle.wgsl_model.specs.Printed.Indentation.{after_line_ends}
+use Rattle.wgsl_writer.specs.Depth.{spaces}
+use Rattle.wgsl_writer.proofs.Indents.{after_append}
+use Rattle.wgsl_writer.proofs.Within.{after_nothing}
+use Rattle.wgsl_model_packed.specs.Printing.{packed_text, packed_span, text_of_rule, is_plain, Prints, Prints.ended, Prints.plain, Prints.line_break, Prints.text, Prints.span, Prints.rule}
+use Rattle.wgsl_theory_packed.specs.Shown.{Shows, Ends}
+
+-- the same text in another form
+pub shown_as : {d : ℕ} {places form one other : List ℕ} → one ≡ other →
+    Shows d places form one → Shows d places form other
+shown_as {d} {places} {form} e s = subst (λ (text : List ℕ). Shows d places form text) e s
+
+-- the same form, written otherwise
+pub shown_of : {d : ℕ} {places one other printed : List ℕ} → one ≡ other →
+    Shows d places one printed → Shows d places other printed
+shown_of {d} {places} {printed = printed} e s =
+    subst (λ (form : List ℕ). Shows d places form printed) e s
+
+-- no places, and no text
+pub shown_nothing : {d : ℕ} → Shows d [] [] []
+shown_nothing {d} = record { shown = λ places form printed left h. h }
+
+-- two texts one after the other
+infixr 10 ◌▸◌
+pub ◌▸◌ : {d : ℕ} {p q f g t u : List ℕ} → Shows d p f t → Shows d q g u →
+    Shows d (p ++ q) (f ++ g) (t ++ u)
+◌▸◌ {d} {p} {q} {f} {g} {t} {u} one two = record {
+  shown = λ places form printed left h.
+      rw (append_assoc p q places, append_assoc f g form, after_append (spaces d) t u,
+          append_assoc (after_line_ends (spaces d) t) (after_line_ends (spaces d) u) printed)
+      (one.shown (q ++ places) (g ++ form) (after_line_ends (spaces d) u ++ printed) left
+          (two.shown places form printed left h));
+}
+
+-- texts one after the other where what is printed is `(t ++ u) ++ v`, as in `in_turn (t before u
+-- before last v)`
+infixr 10 ◌before◌
+pub ◌before◌ : {d : ℕ} {p q f g begun more ended : List ℕ} → Shows d p f more →
+    Ends d q g (begun ++ more) ended → Ends d (p ++ q) (f ++ g) begun ended
+◌before◌ {begun = begun} {more = more} one two = record {
+  text = more ++ two.text;
+  whole = sym (append_assoc begun more two.text) ∙ two.whole;
+  shows = one ▸ two.shows;
+}
+
+pub last : {d : ℕ} {p f begun more : List ℕ} → Shows d p f more → Ends d p f begun (begun ++ more)
+last {more = more} one = record { text = more; whole = refl; shows = one }
+
+pub in_turn : {d : ℕ} {p f ended : List ℕ} → Ends d p f [] ended → Shows d p f ended
+in_turn ends = shown_as ends.whole ends.shows
+
+-- bytes that are printed as they are
+abbrev pub are_plain : List ℕ → Bool
+are_plain [] = true
+are_plain (b ∷ bs) = is_plain b && are_plain bs
+
+plain_is_no_break : (b : ℕ) → is_plain b ≡ true → (b == 10) ≡ false
+plain_is_no_break b h = go (b == 10) refl
+  where
+    go : (t : Bool) → (b == 10) ≡ t → (b == 10) ≡ false
+    go true e = absurd (true≢false (sym h ∙ ap (λ t. if t then false else if b == 35 then false
+        else if b == 36 then false else if b == 37 then false else if b == 94 then false
+        else if b == 126 then false else true) e))
+    go false e = e
+
+pub shown_plain : {d : ℕ} (text : List ℕ) → are_plain text ≡ true → Shows d text [] text
+shown_plain [] h = shown_nothing
+shown_plain {d} (b ∷ bs) h =
+    let both = and_parts (is_plain b) (are_plain bs) h in
+    let gap = spaces d in
+    let more = shown_plain {d = d} bs both.1 in
+    record {
+      shown = λ places form printed left p.
+          rw (plain_is_no_break b both.0) (plain both.0 (more.shown places form printed left p));
+    }
+
+-- a line break
+pub shown_line : {d : ℕ} → Shows d (codes "\n") [] (codes "\n")
+shown_line {d} = record {
+  shown = λ places form printed left p.
+      rw (append_assoc (spaces d) [] printed) (line_break p);
+}
+
+-- a text in its place
+pub shown_text : {d : ℕ} (bytes : List ℕ) → Shows d (codes "#") (packed_text bytes) bytes
+shown_text bytes = record { shown = λ places form printed left p. text bytes p }
+
+-- a span in its place
+pub shown_span : {d : ℕ} (s : Span) → Shows d (codes "%") (packed_span s) []
+shown_span s = record { shown = λ places form printed left p. span s p }
+
+-- what a rule prints, in its place
+pub shown_rule : {d n : ℕ} {places form printed : List ℕ} → text_of_rule n ≡ Some places →
+    Shows d places form printed → Shows d (codes "$") (n ∷ form) printed
+shown_rule {n = n} {form = form} e s = record {
+  shown = λ places more printed left p. rule e (s.shown places more printed left p);
+}
+
+-- nothing after it
+pub shown_alone : {places form printed : List ℕ} → Shows 0 places form printed →
+    Prints 0 places form printed []
+shown_alone {places} {form} {printed} s =
+    rw (← append-nil places, ← append-nil form, ← append-nil printed, ← after_nothing printed)
+    (s.shown [] [] [] [] ended)
