@@ -1,1 +1,4 @@
 pub mod Shown
+pub mod Lists
+pub mod Chains
+pub mod Expressions

@@ -54,6 +54,19 @@ last {more = more} one = record { text = more; whole = refl; shows = one }
 pub in_turn : {d : ℕ} {p f ended : List ℕ} → Ends d p f [] ended → Shows d p f ended
 in_turn ends = shown_as ends.whole ends.shows
 
+-- an end after it
+pub shown_closed : {d : ℕ} {p q f t u : List ℕ} → Shows d p f t → Shows d q [] u →
+    Shows d (p ++ q) f (t ++ u)
+shown_closed {f = f} one two = shown_of (append-nil f) (one ▸ two)
+
+pub last_closed : {d : ℕ} {p q f begun more end : List ℕ} → Shows d p f more → Shows d q [] end →
+    Ends d (p ++ q) f begun ((begun ++ more) ++ end)
+last_closed {begun = begun} {more = more} {end = end} one two = record {
+  text = more ++ end;
+  whole = sym (append_assoc begun more end);
+  shows = shown_closed one two;
+}
+
 -- bytes that are printed as they are
 abbrev pub are_plain : List ℕ → Bool
 are_plain [] = true
@@ -93,6 +106,14 @@ shown_text bytes = record { shown = λ places form printed left p. text bytes p 
 -- a span in its place
 pub shown_span : {d : ℕ} (s : Span) → Shows d (codes "%") (packed_span s) []
 shown_span s = record { shown = λ places form printed left p. span s p }
+
+pub after_span : {d : ℕ} {q g begun ended : List ℕ} (s : Span) → Ends d q g begun ended →
+    Ends d (37 ∷ q) (packed_span s ++ g) begun ended
+after_span s ends = record {
+  text = ends.text;
+  whole = ends.whole;
+  shows = shown_span s ▸ ends.shows;
+}
 
 -- what a rule prints, in its place
 pub shown_rule : {d n : ℕ} {places form printed : List ℕ} → text_of_rule n ≡ Some places →
