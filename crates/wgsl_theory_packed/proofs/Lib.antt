@@ -2,3 +2,4 @@ pub mod Shown
 pub mod Lists
 pub mod Chains
 pub mod Expressions
+pub mod Attributes
