@@ -3,3 +3,4 @@ pub mod Lists
 pub mod Chains
 pub mod Expressions
 pub mod Attributes
+pub mod Declarations
