@@ -1,5 +1,5 @@
 -- What the packed forms of attributes print.
-use Rattle.std.proofs.Common.{ℕ, ◌≡◌, refl, List, [], ◌∷◌, ◌++◌, Option, None, Some, codes}
+use Rattle.std.proofs.Common.{ℕ, ◌≡◌, refl, List, [], ◌∷◌, ◌++◌, Option, Some, codes}
 use Rattle.wgsl_model.specs.Trees.NamedValues.{severity_text, interpolation_type_text, interpolation_sampling_text, builtin_value_text}
 use Rattle.wgsl_model.specs.Trees.Spanned.{Spanned}
 use Rattle.wgsl_model.specs.Trees.Expressions.{ExpressionNode}
@@ -10,7 +10,7 @@ use Rattle.wgsl_model_packed.specs.Printing.{text_of_rule}
 use Rattle.wgsl_model_packed.specs.Expressions.{packed_expression_node, packed_optional, packed_list}
 use Rattle.wgsl_model_packed.specs.Attributes.{packed_type_constraint, packed_attribute, packed_attribute_node, packed_attribute_line, packed_attributes_before}
 use Rattle.wgsl_theory_packed.specs.Shown.{Shows}
-use Rattle.wgsl_theory_packed.proofs.Shown.{◌▸◌, ◌before◌, last, last_closed, in_turn, shown_closed, shown_plain, shown_line, shown_text, shown_span, shown_rule}
+use Rattle.wgsl_theory_packed.proofs.Shown.{◌▸◌, ◌before◌, last, last_closed, in_turn, shown_plain, shown_line, shown_text, shown_span, shown_rule}
 use Rattle.wgsl_theory_packed.proofs.Lists.{shown_none, shows_optional, shows_items, shows_list}
 use Rattle.wgsl_theory_packed.proofs.Expressions.{shows_expression_node, shows_type}
 

@@ -1,5 +1,5 @@
 -- Components, elements and operations that follow one another: what is leftmost leads to the rest.
-use Rattle.std.proofs.Common.{ℕ, ◌≡◌, refl, sym, ap, ◌∙◌, Bool, true, false, if◌then◌else◌, List, [], ◌∷◌, ◌++◌, Option, Some, codes}
+use Rattle.std.proofs.Common.{ℕ, ◌≡◌, refl, ap, Bool, true, false, if◌then◌else◌, List, [], ◌∷◌, ◌++◌, Some, codes}
 use Rattle.std.proofs.lemmas.List.{append_assoc}
 use Rattle.grammar.specs.Tokens.{Span}
 use Rattle.wgsl_model.specs.Printed.Indentation.{after_line_ends}
@@ -26,19 +26,23 @@ one_more {d} {places} {first} {begun} {ended} n span form is leads ends = record
   led = λ rest more_form more_printed left h.
       let gap = spaces d in
       let text = ends.text in
-      rw (← ends.whole, append_assoc (first ++ (n ∷ span)) form more_form,
-          append_assoc first (n ∷ span) (form ++ more_form), after_append gap begun text,
-          append_assoc (after_line_ends gap begun) (after_line_ends gap text) more_printed)
+      rw (
+        ← ends.whole,
+        append_assoc (first ++ (n ∷ span)) form more_form,
+        append_assoc first (n ∷ span) (form ++ more_form),
+        after_append gap begun text,
+        append_assoc (after_line_ends gap begun) (after_line_ends gap text) more_printed,
+      )
       (leads.led rest (n ∷ (span ++ (form ++ more_form))) (after_line_ends gap text ++ more_printed) left
-          (rule is (rw (append_assoc places (codes "$") rest, ← append_assoc span form more_form)
-          (ends.shows.shown (36 ∷ rest) more_form more_printed left h))));
+      (rule is (rw (append_assoc places (codes "$") rest, ← append_assoc span form more_form)
+      (ends.shows.shown (36 ∷ rest) more_form more_printed left h))));
 }
 
 -- a component, an element and an operation
 pub component_leads : {d : ℕ} {first begun : List ℕ} (of_int : Bool) (s : Span) (component : List ℕ) →
     Leads d first begun →
     Leads d ((first ++ ((if of_int then component_of_int_rule else component_rule) ∷ packed_span s))
-        ++ packed_text component)
+    ++ packed_text component)
     (begun ++ (if of_int then codes " ." else codes ".") ++ component)
 component_leads true s component leads =
     one_more component_of_int_rule (packed_span s) (packed_text component) refl leads

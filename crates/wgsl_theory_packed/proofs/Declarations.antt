@@ -1,11 +1,10 @@
 -- What the packed forms of the declarations of values print, and of some parts of statements.
-use Rattle.std.proofs.Common.{ℕ, refl, List, ◌++◌, Option, Some, None, codes}
+use Rattle.std.proofs.Common.{ℕ, refl, Option, Some, codes}
 use Rattle.wgsl_model.specs.Trees.NamedValues.{AddressSpace, AccessMode, access_mode_text, address_space_text}
 use Rattle.wgsl_model.specs.Trees.Attributed.{Attributed}
 use Rattle.wgsl_model.specs.Trees.Statements.{DeclarationKind, const_kind, override_kind, let_kind, var_kind, Declaration, BreakIfStatement, CaseSelector, default_selector, expression_selector}
 use Rattle.wgsl_model.specs.Printed.Declarations.{print_attributed, print_access_mode, print_var_template, print_kind, print_typed, print_initializer, unended_declaration, print_break_if, print_selector}
 use Rattle.wgsl_model_packed.specs.Rules.{further_word_rule, var_template_rule, typed_rule, initializer_rule}
-use Rattle.wgsl_model_packed.specs.Expressions.{packed_optional}
 use Rattle.wgsl_model_packed.specs.Statements.{packed_var_template, packed_kind, packed_declaration, packed_break_if, packed_selector}
 use Rattle.wgsl_theory_packed.specs.Shown.{Shows}
 use Rattle.wgsl_theory_packed.proofs.Shown.{◌▸◌, ◌before◌, last, last_closed, in_turn, shown_plain, shown_text, shown_rule}

@@ -1,7 +1,9 @@
 -- Texts whose places are filled one after another.
-use Rattle.std.proofs.Common.{ℕ, ◌≡◌, refl, sym, ap, ◌∙◌, subst, Bool, true, false, ◌==◌, ◌&&◌, if◌then◌else◌, List, [], ◌∷◌, ◌++◌, Option, Some, codes, true≢false}
+use Rattle.std.proofs.Common.{ℕ, ◌≡◌, refl, sym, ◌∙◌, subst, true, false, ◌==◌, List, [], ◌∷◌, ◌++◌, Some, codes, true≢false, inl, inr}
 use Rattle.std.proofs.lemmas.List.{append_assoc, append-nil}
 use Rattle.std.proofs.lemmas.Bool.{and_parts}
+use Rattle.std.proofs.lemmas.Bool.Decides.{eqb_tells}
+use Rattle.std.specs.List.{list_all}
 use Rattle.grammar.specs.Tokens.{Span}
 use Rattle.wgsl_model.specs.Printed.Indentation.{after_line_ends}
 use Rattle.wgsl_writer.specs.Depth.{spaces}
@@ -31,14 +33,18 @@ pub ◌▸◌ : {d : ℕ} {p q f g t u : List ℕ} → Shows d p f t → Shows d
     Shows d (p ++ q) (f ++ g) (t ++ u)
 ◌▸◌ {d} {p} {q} {f} {g} {t} {u} one two = record {
   shown = λ places form printed left h.
-      rw (append_assoc p q places, append_assoc f g form, after_append (spaces d) t u,
-          append_assoc (after_line_ends (spaces d) t) (after_line_ends (spaces d) u) printed)
+      rw (
+        append_assoc p q places,
+        append_assoc f g form,
+        after_append (spaces d) t u,
+        append_assoc (after_line_ends (spaces d) t) (after_line_ends (spaces d) u) printed,
+      )
       (one.shown (q ++ places) (g ++ form) (after_line_ends (spaces d) u ++ printed) left
-          (two.shown places form printed left h));
+      (two.shown places form printed left h));
 }
 
--- texts one after the other where what is printed is `(t ++ u) ++ v`, as in `in_turn (t before u
--- before last v)`
+-- the same where what is printed is `(t ++ u) ++ v`, and the form `f ++ (g ++ h)`: this is shown by
+-- `in_turn (one before two before last three)`
 infixr 10 ◌before◌
 pub ◌before◌ : {d : ℕ} {p q f g begun more ended : List ℕ} → Shows d p f more →
     Ends d q g (begun ++ more) ended → Ends d (p ++ q) (f ++ g) begun ended
@@ -54,11 +60,12 @@ last {more = more} one = record { text = more; whole = refl; shows = one }
 pub in_turn : {d : ℕ} {p f ended : List ℕ} → Ends d p f [] ended → Shows d p f ended
 in_turn ends = shown_as ends.whole ends.shows
 
--- an end after it
+-- a text, and an end that takes nothing from the form
 pub shown_closed : {d : ℕ} {p q f t u : List ℕ} → Shows d p f t → Shows d q [] u →
     Shows d (p ++ q) f (t ++ u)
 shown_closed {f = f} one two = shown_of (append-nil f) (one ▸ two)
 
+-- the same as the last of some texts
 pub last_closed : {d : ℕ} {p q f begun more end : List ℕ} → Shows d p f more → Shows d q [] end →
     Ends d (p ++ q) f begun ((begun ++ more) ++ end)
 last_closed {begun = begun} {more = more} {end = end} one two = record {
@@ -67,25 +74,17 @@ last_closed {begun = begun} {more = more} {end = end} one two = record {
   shows = shown_closed one two;
 }
 
--- bytes that are printed as they are
-abbrev pub are_plain : List ℕ → Bool
-are_plain [] = true
-are_plain (b ∷ bs) = is_plain b && are_plain bs
-
 plain_is_no_break : (b : ℕ) → is_plain b ≡ true → (b == 10) ≡ false
-plain_is_no_break b h = go (b == 10) refl
-  where
-    go : (t : Bool) → (b == 10) ≡ t → (b == 10) ≡ false
-    go true e = absurd (true≢false (sym h ∙ ap (λ t. if t then false else if b == 35 then false
-        else if b == 36 then false else if b == 37 then false else if b == 94 then false
-        else if b == 126 then false else true) e))
-    go false e = e
+plain_is_no_break b h = elim (eqb_tells b 10) [
+  | inl e ↦ absurd (true≢false (sym (rw e.0 at h)))
+  | inr e ↦ e.0
+]
 
-pub shown_plain : {d : ℕ} (text : List ℕ) → are_plain text ≡ true → Shows d text [] text
+-- bytes that are printed as they are
+pub shown_plain : {d : ℕ} (bytes : List ℕ) → list_all is_plain bytes ≡ true → Shows d bytes [] bytes
 shown_plain [] h = shown_nothing
 shown_plain {d} (b ∷ bs) h =
-    let both = and_parts (is_plain b) (are_plain bs) h in
-    let gap = spaces d in
+    let both = and_parts (is_plain b) (list_all is_plain bs) h in
     let more = shown_plain {d = d} bs both.1 in
     record {
       shown = λ places form printed left p.
@@ -107,6 +106,7 @@ shown_text bytes = record { shown = λ places form printed left p. text bytes p 
 pub shown_span : {d : ℕ} (s : Span) → Shows d (codes "%") (packed_span s) []
 shown_span s = record { shown = λ places form printed left p. span s p }
 
+-- a span before others of some texts
 pub after_span : {d : ℕ} {q g begun ended : List ℕ} (s : Span) → Ends d q g begun ended →
     Ends d (37 ∷ q) (packed_span s ++ g) begun ended
 after_span s ends = record {
@@ -122,7 +122,7 @@ shown_rule {n = n} {form = form} e s = record {
   shown = λ places more printed left p. rule e (s.shown places more printed left p);
 }
 
--- nothing after it
+-- a whole form at the top
 pub shown_alone : {places form printed : List ℕ} → Shows 0 places form printed →
     Prints 0 places form printed []
 shown_alone {places} {form} {printed} s =
