@@ -1,0 +1,6 @@
+pub mod Shown
+pub mod Lists
+pub mod Chains
+pub mod Expressions
+pub mod Attributes
+pub mod Declarations
