@@ -4,3 +4,5 @@ pub mod Chains
 pub mod Expressions
 pub mod Attributes
 pub mod Declarations
+pub mod Blocks
+pub mod Statements
