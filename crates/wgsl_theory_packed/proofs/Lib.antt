@@ -6,3 +6,4 @@ pub mod Attributes
 pub mod Declarations
 pub mod Blocks
 pub mod Statements
+pub mod Units
