@@ -1,5 +1,6 @@
 -- What is printed of the lines of a block, one level deeper, and of what ends it.
-use Rattle.std.proofs.Common.{ℕ, suc, ◌≡◌, refl, ap, subst, Bool, true, false, cond, List, [], ◌∷◌, ◌++◌, Some, codes, append_assoc, append-nil}
+use Rattle.std.proofs.Common.{ℕ, suc, ◌≡◌, ◌∙◌, if◌then◌else◌, inl, inr, refl, sym, ap, subst, Bool, true, false, cond, List, [], ◌∷◌, ◌++◌, Some, codes, append_assoc, append-nil}
+use Rattle.std.proofs.lemmas.Bool.Decides.{eqb_tells}
 use Rattle.std.specs.List.{flat_map}
 use Rattle.grammar.specs.Tokens.{Span}
 use Rattle.wgsl_model.specs.Trees.Statements.{statement_node, StatementNodes, no_statements, statement_before}
@@ -9,7 +10,6 @@ use Rattle.wgsl_model.specs.Printed.Statements.{is_void, print_statement, statem
 use Rattle.wgsl_model.proofs.Filled.{IsFilled, left_filled, statement_filled}
 use Rattle.wgsl_writer.specs.Depth.{spaces}
 use Rattle.wgsl_writer.proofs.Indents.{after_append}
-use Rattle.wgsl_writer.proofs.Within.{after_four}
 use Rattle.wgsl_model_packed.specs.Printing.{packed_span, text_of_rule, Prints, plain, line_break, deeper, back, rule}
 use Rattle.wgsl_model_packed.specs.Rules.{block_end_rule, empty_end_rule, opened_end_rule, empty_opened_end_rule, indented_line_rule, void_item_rule, item_rule}
 use Rattle.wgsl_model_packed.specs.Statements.{end_of}
@@ -58,11 +58,34 @@ body_more {d} {front = front} {form = f} {text = text} {more = more} {inside = i
       (b.printed places form printed left p)));
 }
 
+-- a gap after each line break, and then another after each
+after_twice : (outer inner xs : List ℕ) → after_line_ends outer (after_line_ends inner xs)
+    ≡ after_line_ends (outer ++ after_line_ends outer inner) xs
+after_twice outer inner [] = refl
+after_twice outer inner (x ∷ xs) =
+    let both = outer ++ after_line_ends outer inner in
+    let rest = after_line_ends inner xs in
+    elim (eqb_tells x 10) [
+      | inl e ↦
+          ap (λ b. after_line_ends outer (if b then x ∷ (inner ++ rest) else x ∷ rest)) e.0
+          ∙ ap (λ b. if b then x ∷ (outer ++ after_line_ends outer (inner ++ rest))
+          else x ∷ after_line_ends outer (inner ++ rest)) e.0
+          ∙ ap (λ z. x ∷ (outer ++ z)) (after_append outer inner rest)
+          ∙ ap (λ z. x ∷ (outer ++ (after_line_ends outer inner ++ z))) (after_twice outer inner xs)
+          ∙ ap (λ z. x ∷ z) (sym (append_assoc outer (after_line_ends outer inner) (after_line_ends both xs)))
+          ∙ sym (ap (λ b. if b then x ∷ (both ++ after_line_ends both xs) else x ∷ after_line_ends both xs) e.0)
+      | inr e ↦
+          ap (λ b. after_line_ends outer (if b then x ∷ (inner ++ rest) else x ∷ rest)) e.0
+          ∙ ap (λ b. if b then x ∷ (outer ++ after_line_ends outer rest) else x ∷ after_line_ends outer rest) e.0
+          ∙ ap (λ z. x ∷ z) (after_twice outer inner xs)
+          ∙ sym (ap (λ b. if b then x ∷ (both ++ after_line_ends both xs) else x ∷ after_line_ends both xs) e.0)
+    ]
+
 -- an indented text that is not empty is one level deeper, after four spaces
 indented_deeper : (d : ℕ) (text : List ℕ) → IsFilled text
     → after_line_ends (spaces d) (indented text) ≡ codes "    " ++ after_line_ends (spaces (suc d)) text
 indented_deeper d [] h = absurd h
-indented_deeper d (b ∷ bs) h = ap (λ t. codes "    " ++ t) (after_four (spaces d) (b ∷ bs))
+indented_deeper d (b ∷ bs) h = ap (λ t. codes "    " ++ t) (after_twice (spaces d) (codes "    ") (b ∷ bs))
 
 -- lines between braces are an indented text
 lines_between : (d : ℕ) (text last more : List ℕ) → IsFilled text
