@@ -4,3 +4,6 @@ pub mod Chains
 pub mod Expressions
 pub mod Attributes
 pub mod Declarations
+pub mod Blocks
+pub mod Statements
+pub mod Units
