@@ -1,5 +1,5 @@
 -- What the packed form of a node of each kind prints.
-use Rattle.std.proofs.Common.{ℕ, ◌≡◌, sym, subst, List, [], codes}
+use Rattle.std.proofs.Common.{[], codes}
 use Rattle.wgsl_model_packed.specs.Printing.{Prints}
 use Rattle.wgsl_theory_packed.specs.Shown.{Shows}
 use Rattle.wgsl_theory_packed.proofs.Shown.{shown_alone}
@@ -30,9 +30,7 @@ shown a_continuing c = shows_continuing c
 shown a_break_if b = shows_break_if b
 shown a_type_constraint t = shows_type_constraint t
 
--- the packed form of a node of a kind prints what is printed of the node
-pub packed_prints : (kind : Kind) (node : (printing_of kind).Node) (form : List ℕ)
-    → form ≡ (printing_of kind).packed node → Prints 0 (codes "$") form ((printing_of kind).print node) []
-packed_prints kind node form e =
-    subst (λ f. Prints 0 (codes "$") f ((printing_of kind).print node) []) (sym e)
-    (shown_alone (shown kind node))
+-- what is printed of the packed form of a node is what is printed of the node
+pub packed_prints : (kind : Kind) (node : (printing_of kind).Node)
+    → Prints 0 (codes "$") ((printing_of kind).packed node) ((printing_of kind).print node) []
+packed_prints kind node = shown_alone (shown kind node)

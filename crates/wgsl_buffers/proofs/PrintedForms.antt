@@ -1,5 +1,5 @@
 -- What is printed of the form of the tree of a text is the printed text of that tree.
-use Rattle.std.proofs.Common.{ℕ, ◌≡◌, ◌⊎◌, inl, inr, ◌^◌, ◌<◌, sym, ap, subst, ◌∙◌, List, length, arith}
+use Rattle.std.proofs.Common.{ℕ, ◌≡◌, ◌⊎◌, inl, inr, ◌^◌, ◌<◌, sym, ap, subst, ◌∙◌, List, [], codes, length, arith}
 use Rattle.std.specs.Str.{IsUtf8, chars}
 use Rattle.wgsl_model.specs.Grammar.Symbols as symbols
 use Rattle.wgsl_model.specs.Grammar.Symbols.{Symbol, Value}
@@ -13,11 +13,13 @@ use Rattle.wgsl_model.specs.Trees.Statements.{statement_node}
 use Rattle.wgsl_theory_grammar.proofs.Tokens.Places.{bytes_width}
 use Rattle.wgsl_form_laws.proofs.Parts.{FitsAs}
 use Rattle.wgsl_form_laws.proofs.Rules.{trees_fit}
+use Rattle.wgsl_model_packed.specs.Printing.{Prints}
 use Rattle.wgsl_buffers.specs.declared.answer.Answer.{Answer}
 use Rattle.wgsl_buffers.specs.Answers.{Holds, Lacks}
 use Rattle.wgsl_buffers.specs.Kinds.{a_declaration, a_directive, a_module, a_statement, an_expression}
 use Rattle.wgsl_buffers.specs.PrintedTrees.{print_bare_statement, PrintsTheTree}
 use Rattle.wgsl_buffers.specs.Trees.{declaration_tree, directive_tree, expression_tree, module_tree, statement_tree, IsFormOf, IsPackedOf}
+use Rattle.wgsl_buffers.proofs.PackedKinds.{packed_prints}
 use Rattle.wgsl_buffers.specs.Calls.{Formats, PrintsForm, PrintsPacked, Reads}
 
 -- a tree whose numbers fit, as those of the trees of a text do
@@ -101,5 +103,8 @@ pub packed_as_formatted : (text form before buffer : List ℕ) (answer : Answer)
     → IsUtf8 text → IsPackedOf module_tree (chars text) form → (result ≡ 0) ⊎ (result ≡ 4)
     → PrintsPacked form before buffer answer result → Formats text before buffer answer result
 packed_as_formatted text form before buffer answer result valid (u, tree, e) status prints =
+    let shown = subst (λ f. Prints 0 (codes "$") f (print_unit u) []) (sym e) (packed_prints a_module u) in
     unit_formatted text before buffer answer result u valid status tree
-    (λ done. prints.printed done a_module u e) (λ lacks. prints.small lacks a_module u e)
+    (λ done. let (t, only, holds) = prints.printed done in subst (λ x. Holds x buffer answer) (only.1 _ shown) holds)
+    (λ lacks. let (t, only, small) = prints.small lacks in
+    subst (λ x. Lacks x before buffer answer) (only.1 _ shown) small)

@@ -1,6 +1,6 @@
 -- What each call promises of a text, of the buffer before it and after it, of its answer and of its
 -- status.
-use Rattle.std.specs.Prelude.{◌≡◌, ◌≢◌, ◌⊎◌, ◌≤◌, ◌<◌, ℕ, List, chars, length}
+use Rattle.std.specs.Prelude.{◌≡◌, ◌⊎◌, ◌≤◌, ◌<◌, ℕ, List, [], chars, codes, length}
 use Rattle.std.specs.Str.{IsUtf8}
 use Rattle.grammar.specs.Tokens as grammar
 use Rattle.grammar.specs.Endings.{Ending, Ending.finished, Ending.carried}
@@ -10,6 +10,7 @@ use Rattle.wgsl_model.specs.Printed.Units.{print_unit}
 use Rattle.wgsl_model.specs.Program.{IsUnit, IsFaultOf}
 use Rattle.wgsl_model.specs.SourceTrees.{IsFaultIn}
 use Rattle.wgsl_model.specs.Tokens.TokenList.{IsTokenList}
+use Rattle.wgsl_model_packed.specs.Printing.{Prints}
 use Rattle.wgsl_lexer.specs.Left.{BeginsWithList}
 use Rattle.wgsl_model_tidy.specs.Layout.{Layout}
 use Rattle.wgsl_model_tidy.specs.Syntax.{IsFaultAfterMark}
@@ -22,7 +23,7 @@ use Rattle.wgsl_buffers.specs.declared.tokens.PlacedKind.{PlacedKind}
 use Rattle.wgsl_buffers.specs.Answers.{counted, of_kind, Refuses, RefusesWithLines, Holds, Lacks, RefusesForm, IsNoText}
 use Rattle.wgsl_buffers.specs.Items.{count_of, counted_to, HoldItems, kind_and_place, token_items, start_and_end, ArePlaces}
 use Rattle.wgsl_buffers.specs.Comments.{AreTokensAndComments}
-use Rattle.wgsl_buffers.specs.Kinds.{Kind, IsNoForm, IsPrint, kind_of, printing_of}
+use Rattle.wgsl_buffers.specs.Kinds.{IsNoForm, IsPrint, kind_of}
 use Rattle.wgsl_buffers.specs.Trees.{Tree, tree_of, IsFormOf, IsPackedOf}
 
 -- what each call promises: 2 only for bytes that are no text, and 3 with nothing in the answer
@@ -103,16 +104,18 @@ pub record PrintsForm (what : ℕ) (form before buffer : List ℕ) (answer : Ans
   pub status : result ≤ 5
   pub reads : Reads form answer result
 
--- the printed text of the node of which the form is the packed one, unless an allocation fails
+-- a text that the rules print of a packed form, and no other
+abbrev pub IsPacked : List ℕ → List ℕ → Type 0
+IsPacked form text = Prints 0 (codes "$") form text []
+    × ((other : List ℕ) → Prints 0 (codes "$") form other [] → text ≡ other)
+
+-- what the rules print of a packed form; 1 only for bytes of which they print nothing
 pub record PrintsPacked (form before buffer : List ℕ) (answer : Answer) (result : ℕ) : Type 0 where
-  pub printed : result ≡ 0 → (kind : Kind) (node : (printing_of kind).Node)
-      → form ≡ (printing_of kind).packed node → Holds ((printing_of kind).print node) buffer answer
-  pub refused : result ≡ 1 → (kind : Kind) (node : (printing_of kind).Node)
-      → form ≢ (printing_of kind).packed node
-  pub told : result ≡ 1 → (buffer ≡ before) × (answer ≡ of_kind 10)
+  pub printed : result ≡ 0 → (text : List ℕ) × IsPacked form text × Holds text buffer answer
+  pub refused : result ≡ 1 → ((text : List ℕ) → ¬ (Prints 0 (codes "$") form text []))
+      × (buffer ≡ before) × (answer ≡ of_kind 10)
   pub memory : result ≡ 3 → answer ≡ counted 0
-  pub small : result ≡ 4 → (kind : Kind) (node : (printing_of kind).Node)
-      → form ≡ (printing_of kind).packed node → Lacks ((printing_of kind).print node) before buffer answer
+  pub small : result ≡ 4 → (text : List ℕ) × IsPacked form text × Lacks text before buffer answer
   pub status : (result ≤ 1) ⊎ ((result ≡ 3) ⊎ (result ≡ 4))
 
 -- the items that are written of the tokens of a text before its end or its first invalid token

@@ -1,11 +1,12 @@
 //! Laws of the calls that write trees by their forms and print them.
 
-ghost use Rattle.std.specs.Prelude.{◌≡◌, ◌⊎◌, ◌<◌, ◌^◌, ℕ, List, chars, length};
+ghost use Rattle.std.specs.Prelude.{◌≡◌, ◌⊎◌, ◌<◌, ◌^◌, ℕ, List, [], chars, codes, length};
 ghost use Rattle.std.specs.Str.{IsUtf8};
 ghost use Rattle.wgsl_model.specs.Printed.Expressions.{print_expression_node};
 ghost use Rattle.wgsl_model.specs.Printed.Units.{print_directive, print_global_declaration, print_unit};
+ghost use Rattle.wgsl_model_packed.specs.Printing.{Prints};
 ghost use Rattle.wgsl_buffers.specs.declared.answer.Answer.{Answer};
-ghost use Rattle.wgsl_buffers.specs.Kinds.{a_declaration, a_directive, a_module, a_statement, an_expression};
+ghost use Rattle.wgsl_buffers.specs.Kinds.{Kind, a_declaration, a_directive, a_module, a_statement, an_expression, printing_of};
 ghost use Rattle.wgsl_buffers.specs.PrintedTrees.{print_bare_statement, PrintsTheTree};
 ghost use Rattle.wgsl_buffers.specs.Trees.{declaration_tree, directive_tree, expression_tree, module_tree, statement_tree, IsFormOf, IsPackedOf};
 ghost use Rattle.wgsl_buffers.specs.Calls.{Formats, PrintsForm, PrintsPacked};
@@ -27,6 +28,12 @@ pub fn printed_form()
         → IsUtf8 text → length text < 2 ^ 64 → IsFormOf module_tree (chars text) form
         → (result ≡ 0) ⊎ (result ≡ 4)
         → PrintsForm 0 form before buffer answer result → Formats text before buffer answer result }
+{}
+
+/// What the rules print of the packed form of a node is the printed text of the node.
+pub fn packed_nodes()
+    ensures { (kind : Kind) (node : (printing_of kind).Node)
+        → Prints 0 (codes "$") ((printing_of kind).packed node) ((printing_of kind).print node) [] }
 {}
 
 /// Printing the packed form of the module that a text is returns what formatting the text returns,

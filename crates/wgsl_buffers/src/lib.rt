@@ -17,7 +17,7 @@ mod trees;
 
 pub use answer::Answer;
 pub use comments::write_tokens_with_comments;
-pub use laws::{printed_form, printed_packed, printed_trees};
+pub use laws::{packed_nodes, printed_form, printed_packed, printed_trees};
 pub use lists::{Place, begins_with_list, write_lists};
 pub use minified::minify;
 pub use modules::{check, format, measure_nesting, recognize};
