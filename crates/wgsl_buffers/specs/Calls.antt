@@ -105,17 +105,17 @@ pub record PrintsForm (what : ℕ) (form before buffer : List ℕ) (answer : Ans
   pub reads : Reads form answer result
 
 -- a text that the rules print of a packed form, and no other
-abbrev pub IsPacked : List ℕ → List ℕ → Type 0
-IsPacked form text = Prints 0 (codes "$") form text []
+abbrev pub IsPackedPrint : List ℕ → List ℕ → Type 0
+IsPackedPrint form text = Prints 0 (codes "$") form text []
     × ((other : List ℕ) → Prints 0 (codes "$") form other [] → text ≡ other)
 
 -- what the rules print of a packed form; 1 only for bytes of which they print nothing
 pub record PrintsPacked (form before buffer : List ℕ) (answer : Answer) (result : ℕ) : Type 0 where
-  pub printed : result ≡ 0 → (text : List ℕ) × IsPacked form text × Holds text buffer answer
+  pub printed : result ≡ 0 → (text : List ℕ) × IsPackedPrint form text × Holds text buffer answer
   pub refused : result ≡ 1 → ((text : List ℕ) → ¬ (Prints 0 (codes "$") form text []))
       × (buffer ≡ before) × (answer ≡ of_kind 10)
   pub memory : result ≡ 3 → answer ≡ counted 0
-  pub small : result ≡ 4 → (text : List ℕ) × IsPacked form text × Lacks text before buffer answer
+  pub small : result ≡ 4 → (text : List ℕ) × IsPackedPrint form text × Lacks text before buffer answer
   pub status : (result ≤ 1) ⊎ ((result ≡ 3) ⊎ (result ≡ 4))
 
 -- the items that are written of the tokens of a text before its end or its first invalid token
