@@ -25,6 +25,13 @@ pub record IsLeft (printer : Printer) (text : List ℕ) : Type 0 where
   pub whole : text ≡ printer.text.items ++ end
   pub prints : Prints printer.depth (places_left printer) printer.form.now end []
 
+-- more is printed, and what the rest prints follows it
+pub record HasPrinted (before after : Printer) : Type 0 where
+  pub first : List ℕ
+  pub wrote : after.text.items ≡ before.text.items ++ first
+  pub prints : (end : List ℕ) → Prints after.depth (places_left after) after.form.now end []
+      → Prints before.depth (places_left before) before.form.now (first ++ end) []
+
 -- more of the text is printed, unless an allocation failed
 abbrev pub Continues : Printer → Result (Unit {0}) PackedError → Printer → Type 0
 Continues before result after = (text : List ℕ) → IsLeft before text →

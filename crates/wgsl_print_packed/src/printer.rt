@@ -1,8 +1,8 @@
 //! What of a packed form is printed, and what is left.
 
-ghost use Rattle.std.specs.Prelude.{ℕ, List, [], ◌∷◌, ◌≡◌, ◌+◌, ◌<◌, ◌≤◌, ◌++◌, true, length, slice_index, codes, MatchResult, OnOk, IfOk};
+ghost use Rattle.std.specs.Prelude.{ℕ, List, [], ◌∷◌, ◌≡◌, ◌≢◌, ◌+◌, ◌<◌, ◌≤◌, ◌++◌, true, length, slice_index, codes, MatchResult, OnOk, IfOk};
 ghost use Rattle.wgsl_model_packed.specs.Printing.{Prints, is_plain};
-ghost use Rattle.wgsl_print_packed.specs.Printing.{Continues, IsLeft, joined, size};
+ghost use Rattle.wgsl_print_packed.specs.Printing.{Continues, HasPrinted, IsLeft, joined, places_left, size};
 ghost use Rattle.wgsl_print_packed.specs.declared.error.PackedError.TheVariants as errors;
 
 use crate::error::PackedError;
@@ -29,7 +29,10 @@ pub(crate) struct Printer<'f> {
 impl<'f> Printer<'f> {
     /// Creates a print that has yet to begin.
     pub(crate) fn new(alloc: Global, form: &'f [u8]) -> Result<Self, PackedError>
-        ensures { (text : List ℕ) → Prints 0 (codes "$") form.now text [] → MatchResult result
+        ensures printed { IfOk result (λ printer. (end : List ℕ) →
+            Prints printer.depth (places_left printer) printer.form.now end [] →
+            Prints 0 (codes "$") form.now (printer.text.items ++ end) []) }
+        ensures taken { (text : List ℕ) → Prints 0 (codes "$") form.now text [] → MatchResult result
             (λ printer. IsLeft printer text) (λ error. error ≡ errors.OutOfMemory) }
     {
         let text = Vec::with_capacity(alloc, form.len())?;
@@ -44,7 +47,8 @@ impl<'f> Printer<'f> {
 
     /// Prints all that is left.
     pub(crate) fn print(&mut self) -> Result<(), PackedError>
-        ensures { (text : List ℕ) → IsLeft self.old text → MatchResult result
+        ensures printed { OnOk result (HasPrinted self.old self.new × (places_left self.new ≡ [])) }
+        ensures taken { (text : List ℕ) → IsLeft self.old text → MatchResult result
             (λ _. (self.new.text.items ≡ text) × (self.new.form.now ≡ []))
             (λ error. error ≡ errors.OutOfMemory) }
     {
@@ -61,8 +65,9 @@ impl<'f> Printer<'f> {
 
     /// Returns the text, if nothing is left of the form.
     pub(crate) fn finish(self) -> Result<Vec<u8>, PackedError>
-        ensures { self.entry.form.now ≡ [] →
-            MatchResult result (λ bytes. bytes ≡ self.entry.text) (λ _. ⊥) }
+        ensures { MatchResult result
+            (λ bytes. (self.entry.form.now ≡ []) × (bytes.items ≡ self.entry.text.items))
+            (λ _. self.entry.form.now ≢ []) }
     {
         if self.form.is_empty() {
             Ok(self.text)
@@ -74,7 +79,8 @@ impl<'f> Printer<'f> {
     /// Prints what fills a place, or the bytes before the next place.
     fn print_place(&mut self, place: u8, rest: &'static [u8]) -> Result<(), PackedError>
         requires { self.old.places.now ≡ place ∷ rest.now }
-        ensures prints { Continues self.old result self.new }
+        ensures printed { OnOk result (HasPrinted self.old self.new) }
+        ensures taken { Continues self.old result self.new }
         ensures smaller { OnOk result (size self.new < size self.old) }
     {
         match place {
@@ -91,7 +97,8 @@ impl<'f> Printer<'f> {
     /// Continues with the text of the rule whose number is next.
     fn enter_rule(&mut self, rest: &'static [u8]) -> Result<(), PackedError>
         requires { self.old.places.now ≡ 36 ∷ rest.now }
-        ensures prints { Continues self.old result self.new }
+        ensures printed { OnOk result (HasPrinted self.old self.new) }
+        ensures taken { Continues self.old result self.new }
         ensures smaller { OnOk result (size self.new < size self.old) }
     {
         let Some((number, form)) = self.form.split_first() else {
@@ -109,7 +116,8 @@ impl<'f> Printer<'f> {
     /// Writes the text that is next.
     fn write_text(&mut self, rest: &'static [u8]) -> Result<(), PackedError>
         requires { self.old.places.now ≡ 35 ∷ rest.now }
-        ensures prints { Continues self.old result self.new }
+        ensures printed { OnOk result (HasPrinted self.old self.new) }
+        ensures taken { Continues self.old result self.new }
         ensures smaller { OnOk result (size self.new < size self.old) }
     {
         let (text, form) = split_text(self.form)?;
@@ -122,7 +130,8 @@ impl<'f> Printer<'f> {
     /// Passes over the span that is next.
     fn skip_span(&mut self, rest: &'static [u8]) -> Result<(), PackedError>
         requires { self.old.places.now ≡ 37 ∷ rest.now }
-        ensures prints { Continues self.old result self.new }
+        ensures printed { OnOk result (HasPrinted self.old self.new) }
+        ensures taken { Continues self.old result self.new }
         ensures smaller { OnOk result (size self.new < size self.old) }
     {
         self.form = after_span(self.form)?;
@@ -133,7 +142,8 @@ impl<'f> Printer<'f> {
     /// Ends a line, and writes the spaces before the next one.
     fn break_line(&mut self, rest: &'static [u8]) -> Result<(), PackedError>
         requires { self.old.places.now ≡ 10 ∷ rest.now }
-        ensures prints { Continues self.old result self.new }
+        ensures printed { OnOk result (HasPrinted self.old self.new) }
+        ensures taken { Continues self.old result self.new }
         ensures smaller { OnOk result (size self.new < size self.old) }
     {
         writing::break_line(self.depth, &mut self.text)?;
@@ -144,7 +154,8 @@ impl<'f> Printer<'f> {
     /// Indents what follows by one level more.
     fn indent(&mut self, rest: &'static [u8]) -> Result<(), PackedError>
         requires { self.old.places.now ≡ 94 ∷ rest.now }
-        ensures prints { Continues self.old result self.new }
+        ensures printed { OnOk result (HasPrinted self.old self.new) }
+        ensures taken { Continues self.old result self.new }
         ensures smaller { OnOk result (size self.new < size self.old) }
     {
         let Some(depth) = self.depth.checked_add(1) else {
@@ -158,7 +169,8 @@ impl<'f> Printer<'f> {
     /// Indents what follows by one level less.
     fn unindent(&mut self, rest: &'static [u8]) -> Result<(), PackedError>
         requires { self.old.places.now ≡ 126 ∷ rest.now }
-        ensures prints { Continues self.old result self.new }
+        ensures printed { OnOk result (HasPrinted self.old self.new) }
+        ensures taken { Continues self.old result self.new }
         ensures smaller { OnOk result (size self.new < size self.old) }
     {
         let Some(depth) = self.depth.checked_sub(1) else {
@@ -173,7 +185,8 @@ impl<'f> Printer<'f> {
     fn write_plain(&mut self) -> Result<(), PackedError>
         requires some { 0 < length self.old.places.now }
         requires first { is_plain (slice_index self.old.places.now 0) ≡ true }
-        ensures prints { Continues self.old result self.new }
+        ensures printed { OnOk result (HasPrinted self.old self.new) }
+        ensures taken { Continues self.old result self.new }
         ensures smaller { OnOk result (size self.new < size self.old) }
     {
         let (plain, rest) = self.places.split_at(plain_length(self.places));
