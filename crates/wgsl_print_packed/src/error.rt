@@ -20,7 +20,7 @@ impl From<AllocError> for PackedError {
     ghost from_gives = { λ _ error. error ≡ errors.OutOfMemory };
 
     fn from(_: AllocError) -> Self {
-        PackedError::OutOfMemory
+        Self::OutOfMemory
     }
 }
 
@@ -28,7 +28,7 @@ impl<T: Drop> From<AllocFailed<T>> for PackedError {
     ghost from_gives = { λ _ error. error ≡ errors.OutOfMemory };
 
     fn from(_: AllocFailed<T>) -> Self {
-        PackedError::OutOfMemory
+        PackedError::from(AllocError)
     }
 }
 
