@@ -1,5 +1,5 @@
 pub mod Table
 pub mod Steps
 pub mod Printed
-pub mod ReadNumbers
+pub mod Numbers
 pub mod Lines

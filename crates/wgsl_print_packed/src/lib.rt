@@ -2,8 +2,8 @@
 #![tactic(auto)]
 
 mod error;
-mod numbers;
 mod printer;
+mod reading;
 mod rule;
 mod rules;
 mod writing;

@@ -6,7 +6,7 @@ ghost use Rattle.wgsl_print_packed.specs.Printing.{Continues, HasPrinted, IsLeft
 ghost use Rattle.wgsl_print_packed.specs.declared.error.PackedError.TheVariants as errors;
 
 use crate::error::PackedError;
-use crate::numbers::{after_span, split_text};
+use crate::reading::{after_span, split_text};
 use crate::rule::rule;
 use crate::writing;
 use std::alloc::{AllocError, Global};

@@ -1,6 +1,6 @@
 use Rattle.std.proofs.Common.{ℕ, ◌++◌, ◌<◌, ◌^◌, length, length-append, take, drop, arith, ap, ◌∙◌}
 use Rattle.std.proofs.Math.Seq.{take-append_seam, drop-append_seam}
-use Rattle.wgsl_print_packed.proofs.numbers.split_text.Goals as goal
+use Rattle.wgsl_print_packed.proofs.reading.split_text.Goals as goal
 
 pub returns-clause-text : goal.returns-clause-text
 returns-clause-text c = λ text left e.

@@ -1,6 +1,6 @@
 use Rattle.std.proofs.Common.{rules}
-use Rattle.wgsl_print_packed.proofs.ReadNumbers.{number_read_in}
-use Rattle.wgsl_print_packed.proofs.numbers.split_number.Goals as goal
+use Rattle.wgsl_print_packed.proofs.Numbers.{number_read_in}
+use Rattle.wgsl_print_packed.proofs.reading.split_number.Goals as goal
 
 pub returns-in-Some-clause-read : goal.returns-in-Some-clause-read
 returns-in-Some-clause-read c =

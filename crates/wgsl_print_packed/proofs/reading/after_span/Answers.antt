@@ -1,8 +1,8 @@
 use Rattle.std.proofs.Common.{ℕ, List, ◌++◌, rules, sym, ap, ◌∙◌}
 use Rattle.std.proofs.lemmas.Slice.{between_to_end}
 use Rattle.wgsl_model_packed.specs.Printing.{packed_span}
-use Rattle.wgsl_print_packed.proofs.ReadNumbers.{span_read}
-use Rattle.wgsl_print_packed.proofs.numbers.after_span.Goals as goal
+use Rattle.wgsl_print_packed.proofs.Numbers.{span_read}
+use Rattle.wgsl_print_packed.proofs.reading.after_span.Goals as goal
 
 pub returns-in-Some-clause-read : goal.returns-in-Some-clause-read
 returns-in-Some-clause-read c =
