@@ -1,0 +1,5 @@
+pub mod Table
+pub mod Steps
+pub mod Printed
+pub mod Numbers
+pub mod Lines

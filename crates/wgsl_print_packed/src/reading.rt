@@ -1,0 +1,48 @@
+//! Texts and spans at the front of a packed form.
+
+ghost use Rattle.std.specs.Prelude.{ℕ, List, ◌≡◌, ◌+◌, ◌++◌, ◌<◌, ◌^◌, ◌≤◌, length, MatchResult, OnOk, IfOk};
+ghost use Rattle.grammar.specs.Tokens.{Span};
+ghost use Rattle.wgsl_model_packed.specs.Printing.{packed_number, packed_span, packed_text};
+
+use crate::error::PackedError;
+
+/// Splits a number off the front of a form.
+fn split_number(form: &[u8]) -> Result<(u64, &[u8]), PackedError>
+    ensures read { IfOk result (λ p. form.now ≡ packed_number p.0 ++ p.1.now) }
+    ensures number { (n : ℕ) (left : List ℕ) → n < 2 ^ 64 → form.now ≡ packed_number n ++ left →
+        MatchResult result (λ p. (p.0 ≡ n) × (p.1.now ≡ left)) (λ _. ⊥) }
+    ensures length { IfOk result (λ p. length p.1.now + 8 ≡ length form.now) }
+{
+    match form.split_first_chunk::<8>() {
+        Some((bytes, left)) => Ok((u64::from_le_bytes(*bytes), left)),
+        None => Err(PackedError::NotPacked),
+    }
+}
+
+/// Splits a text off the front of a form.
+pub(crate) fn split_text(form: &[u8]) -> Result<(&[u8], &[u8]), PackedError>
+    ensures read { IfOk result (λ p. form.now ≡ packed_text p.0.now ++ p.1.now) }
+    ensures text { (text left : List ℕ) → form.now ≡ packed_text text ++ left →
+        MatchResult result (λ p. (p.0.now ≡ text) × (p.1.now ≡ left)) (λ _. ⊥) }
+    ensures shorter { IfOk result (λ p. length p.1.now ≤ length form.now) }
+{
+    let (size, left) = split_number(form)?;
+    let (size, length) = (size as usize, left.len());
+    if size > length {
+        return Err(PackedError::NotPacked);
+    }
+    Ok(left.split_at(size))
+}
+
+/// Returns what is after a span at the front of a form.
+pub(crate) fn after_span(form: &[u8]) -> Result<&[u8], PackedError>
+    ensures read { IfOk result (λ rest. (span : Span) × (form.now ≡ packed_span span ++ rest.now)) }
+    ensures span { (span : Span) (left : List ℕ) → form.now ≡ packed_span span ++ left →
+        MatchResult result (λ rest. rest.now ≡ left) (λ _. ⊥) }
+    ensures shorter { IfOk result (λ rest. length rest.now ≤ length form.now) }
+{
+    match form.get(16..) {
+        Some(left) => Ok(left),
+        None => Err(PackedError::NotPacked),
+    }
+}
