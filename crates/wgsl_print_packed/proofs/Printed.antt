@@ -1,4 +1,4 @@
--- What was printed before the rest of a text, place by place.
+-- What is printed before the rest, place by place.
 use Rattle.std.proofs.Common.{◌≡◌, ℕ, zero, suc, ◌+◌, ◌-◌, ◌<◌, ◌≤◌, refl, sym, ap, ◌∙◌, subst, true, List, [], ◌∷◌, ◌++◌, length, take, drop, get_or, Some, arith}
 use denote.Bor.{Bor}
 use Rattle.wgsl_print_packed.specs.Printing.{joined}

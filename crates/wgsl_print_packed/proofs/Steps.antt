@@ -1,14 +1,14 @@
 -- What a text with places prints, place by place.
-use Rattle.std.proofs.Common.{◌+◌, ◌*◌, length-append, ◌≡◌, ℕ, zero, suc, ◌<◌, ◌≤◌, refl, sym, ap, ◌∙◌, subst, true, false, true≢false, List, [], ◌∷◌, ◌++◌, length, take, drop, get_or, append_assoc, Some, arith}
+use Rattle.std.proofs.Common.{◌+◌, ◌*◌, length-append, ◌≡◌, ℕ, zero, suc, ◌<◌, ◌≤◌, refl, sym, ap, ◌∙◌, subst, true, false, true≢false, List, [], ◌∷◌, ◌++◌, length, take, drop, get_or, append_assoc, arith}
 use denote.Bor.{Bor}
 use Rattle.std.proofs.lemmas.List.{append-nil}
 use Rattle.grammar.specs.Tokens.{Span}
 use Rattle.wgsl_model.specs.Printed.Indentation.{after_line_ends}
 use Rattle.wgsl_writer.specs.Depth.{spaces}
 use Rattle.wgsl_print_packed.specs.Printing.{joined}
-use Rattle.wgsl_model_packed.specs.Printing.{Prints, ended, plain, line_break, deeper, back, text, span, rule, is_plain, packed_text, packed_span, text_of_rule}
+use Rattle.wgsl_model_packed.specs.Printing.{Prints, ended, plain, line_break, deeper, back, text, span, rule, is_plain, packed_text, packed_span}
 
--- what is printed first, and how the end is printed
+-- what is printed first, and how the rest is
 pub record Then (depth : ℕ) (places form first printed left : List ℕ) : Type 0 where
   pub end : List ℕ
   pub whole : printed ≡ first ++ end
@@ -22,10 +22,11 @@ abbrev tail_of : List ℕ → List ℕ
 tail_of [] = []
 tail_of (b ∷ bs) = bs
 
--- a byte that is printed as it is is none that is a place
+-- a plain byte is no place
 not_plain : (b c : ℕ) (bs cs : List ℕ) → is_plain b ≡ true → is_plain c ≡ false → b ∷ bs ≡ c ∷ cs → ⊥
 not_plain b c bs cs is not e = true≢false (sym is ∙ ap (λ (l : List ℕ). is_plain (head_of l)) e ∙ not)
 
+-- with no places nothing is printed
 pub none_left : {depth : ℕ} {places form printed left : List ℕ} → Prints depth places form printed left
     → places ≡ [] → (printed ≡ []) × (form ≡ left)
 none_left ended e = (refl, refl)
@@ -51,20 +52,7 @@ pub record SpanNext (depth : ℕ) (places form printed left : List ℕ) : Type 0
   pub taken : form ≡ packed_span span ++ more
   pub prints : Prints depth places more printed left
 
--- a rule that is next in the form
-pub record RuleNext (depth : ℕ) (places form printed left : List ℕ) : Type 0 where
-  pub number : ℕ
-  pub places_in : List ℕ
-  pub more : List ℕ
-  pub taken : form ≡ number ∷ more
-  pub is : text_of_rule number ≡ Some places_in
-  pub prints : Prints depth (places_in ++ places) more printed left
-
--- a level less
-pub record LevelLess (depth : ℕ) (places form printed left : List ℕ) : Type 0 where
-  pub levels : ℕ
-  pub is : depth ≡ suc levels
-  pub prints : Prints levels places form printed left
+-- ---- the first place
 
 pub plain_next : (depth b : ℕ) (rest : List ℕ) {all form printed left : List ℕ} → is_plain b ≡ true
     → Prints depth all form printed left → all ≡ b ∷ rest → Then depth rest form (b ∷ []) printed left
@@ -89,26 +77,6 @@ line_next depth rest (line_break {places = places} {form = form} {printed = prin
       prints = subst (λ (z : List ℕ). Prints depth z form printed left) others p;
     }
 line_next depth rest _ e = let apart = ap head_of e in absurd (omega (arith, apart))
-
-pub deeper_next : (depth : ℕ) (rest : List ℕ) {all form printed left : List ℕ}
-    → Prints depth all form printed left → all ≡ 94 ∷ rest → Prints (suc depth) rest form printed left
-deeper_next depth rest (plain is p) e = absurd (not_plain _ _ _ _ is refl e)
-deeper_next depth rest (deeper {places = places} {form = form} {printed = printed} {left = left} p) e =
-    let others : places ≡ rest = ap tail_of e in
-    subst (λ (z : List ℕ). Prints (suc depth) z form printed left) others p
-deeper_next depth rest _ e = let apart = ap head_of e in absurd (omega (arith, apart))
-
-pub back_next : {depth : ℕ} (rest : List ℕ) {all form printed left : List ℕ}
-    → Prints depth all form printed left → all ≡ 126 ∷ rest → LevelLess depth rest form printed left
-back_next rest (plain is p) e = absurd (not_plain _ _ _ _ is refl e)
-back_next rest (back {depth = levels} {places = places} {form = form} {printed = printed} {left = left} p) e =
-    let others : places ≡ rest = ap tail_of e in
-    record {
-      levels = levels;
-      is = refl;
-      prints = subst (λ (z : List ℕ). Prints levels z form printed left) others p;
-    }
-back_next rest _ e = let apart = ap head_of e in absurd (omega (arith, apart))
 
 pub text_next : (depth : ℕ) (rest : List ℕ) {all form printed left : List ℕ}
     → Prints depth all form printed left → all ≡ 35 ∷ rest → TextNext depth rest form printed left
@@ -139,22 +107,6 @@ span_next depth rest (span {places = places} {form = form} {printed = printed} {
       prints = subst (λ (z : List ℕ). Prints depth z form printed left) others p;
     }
 span_next depth rest _ e = let apart = ap head_of e in absurd (omega (arith, apart))
-
-pub rule_next : (depth : ℕ) (rest : List ℕ) {all form printed left : List ℕ}
-    → Prints depth all form printed left → all ≡ 36 ∷ rest → RuleNext depth rest form printed left
-rule_next depth rest (plain is p) e = absurd (not_plain _ _ _ _ is refl e)
-rule_next depth rest (rule {n = n} {places = places} {form = form} {printed = printed} {left = left}
-    {text = content} is p) e =
-    let others : places ≡ rest = ap tail_of e in
-    record {
-      number = n;
-      places_in = content;
-      more = form;
-      taken = refl;
-      is = is;
-      prints = subst (λ (z : List ℕ). Prints depth (content ++ z) form printed left) others p;
-    }
-rule_next depth rest _ e = let apart = ap head_of e in absurd (omega (arith, apart))
 
 -- ---- bytes that are printed as they are
 
@@ -191,6 +143,7 @@ joined-push (first ∷ outer) rest =
 
 -- ---- how much is left
 
+-- the text of a rule has fewer bytes than 64 times what its number takes from the form
 pub less_of_rule : (form form' places rest content inner outer outer' : List ℕ) (n n' : ℕ)
     → length form' + 1 ≡ length form → length content < 64 → inner ≡ content → places ≡ 36 ∷ rest
     → outer' ≡ rest ++ outer → n' ≤ n + 1
@@ -204,6 +157,7 @@ less_of_rule form form' places rest content inner outer outer' n n' shorter shor
     let g : length inner ≡ length content = ap length same in
     omega arith
 
+-- a text that is left comes after one of which nothing is
 pub places_of_pop : (places : List ℕ) (outer outer' : List (Bor (List ℕ))) (next : Bor (List ℕ))
     → length places ≡ 0 → outer ≡ outer' ++ (next ∷ []) → places ++ joined outer ≡ next.now ++ joined outer'
 places_of_pop [] outer outer' next none is = ap joined is ∙ joined-push outer' next
@@ -219,6 +173,7 @@ less_of_pop form places outer outer' next none is =
     let fewer : length outer ≡ length outer' + 1 = ap length is ∙ length-append outer' (next ∷ []) in
     omega arith
 
+-- if nothing is left of any text, all is printed
 pub all_printed : {depth : ℕ} {form end : List ℕ} (places whole text : List ℕ) (outer : List (Bor (List ℕ)))
     → length places ≡ 0 → length outer ≡ 0 → whole ≡ text ++ end
     → Prints depth (places ++ joined outer) form end [] → (text ≡ whole) × (form ≡ [])
