@@ -44,6 +44,8 @@ mod layout;
 mod lines;
 mod minified;
 mod nested;
+#[cfg(test)]
+mod packed;
 pub mod parser;
 pub mod span;
 pub mod syntax;
