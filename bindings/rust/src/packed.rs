@@ -17,9 +17,9 @@ use reader::Reader;
 pub use writer::{Packed, Writer};
 
 /// How many expressions and statements are read or written inside one another. What nests deeper
-/// has no packed form here, so that neither takes more stack than a thread of Rust's has, also
-/// without optimization: a level takes at most 2,000 bytes then, of two megabytes.
-const DEEPEST: usize = 200;
+/// has no packed form here, so that neither takes more than a megabyte of stack, half of what a
+/// thread of Rust's has: a level takes up to 10,000 bytes without optimization.
+const DEEPEST: usize = 100;
 
 /// Why no tree is read from a packed form.
 #[derive(Clone, Copy, Debug, PartialEq, Eq)]

@@ -42,7 +42,7 @@ impl<'t> Reader<'t> {
     }
 
     /// Takes the number of a rule.
-    #[inline(always)]
+    #[inline]
     fn rule(&mut self) -> Option<u8> {
         let (rule, left) = self.left.split_first()?;
         self.left = left;
@@ -50,14 +50,14 @@ impl<'t> Reader<'t> {
     }
 
     /// Takes the number of a rule, which has to be next.
-    #[inline(always)]
+    #[inline]
     fn expect(&mut self, rule: u8) -> Option<()> {
         (self.rule()? == rule).then_some(())
     }
 
     /// Takes a rule, and returns whether something is there: it is not `nothing`, and has to be
     /// another one.
-    #[inline(always)]
+    #[inline]
     fn has(&mut self, rule: u8) -> Option<bool> {
         match self.rule()? {
             NOTHING => Some(false),
@@ -66,7 +66,7 @@ impl<'t> Reader<'t> {
     }
 
     /// Takes a number.
-    #[inline(always)]
+    #[inline]
     fn number(&mut self) -> Option<usize> {
         let (number, left) = self.left.split_first_chunk()?;
         self.left = left;
@@ -74,14 +74,14 @@ impl<'t> Reader<'t> {
     }
 
     /// Takes a span.
-    #[inline(always)]
+    #[inline]
     fn span(&mut self) -> Option<Span> {
         let (start, end) = (self.number()?, self.number()?);
         Some(Span { start, end })
     }
 
     /// Takes the bytes of a text.
-    #[inline(always)]
+    #[inline]
     fn bytes(&mut self) -> Option<&'t [u8]> {
         let size = self.number()?;
         let (text, left) = self.left.split_at_checked(size)?;
@@ -90,13 +90,13 @@ impl<'t> Reader<'t> {
     }
 
     /// Takes a text.
-    #[inline(always)]
+    #[inline]
     fn text(&mut self) -> Option<&'t str> {
         std::str::from_utf8(self.bytes()?).ok()
     }
 
     /// Takes a name.
-    #[inline(always)]
+    #[inline]
     fn ident(&mut self) -> Option<Ident> {
         self.text().map(Ident::from)
     }
@@ -107,7 +107,7 @@ impl<'t> Reader<'t> {
     }
 
     /// Opens an expression or a statement, unless too many are open.
-    #[inline(always)]
+    #[inline]
     fn open(&mut self) -> Option<()> {
         if self.depth == DEEPEST {
             self.is_too_deep = true;
@@ -118,14 +118,14 @@ impl<'t> Reader<'t> {
     }
 
     /// Closes what was opened last.
-    #[inline(always)]
+    #[inline]
     fn close(&mut self) {
         self.depth -= 1;
     }
 
     /// Reads items, each after the number of a rule: one for the last, one for those before it,
     /// and one for no items.
-    #[inline(always)]
+    #[inline]
     fn list<T>(
         &mut self,
         (none, before, last): (u8, u8, u8),

@@ -12,6 +12,9 @@ use std::path::Path;
 /// How many levels of spans a tree has that is made at random.
 const LEVELS: usize = 5;
 
+/// How many kilobytes of stack a form takes at most.
+const STACK: usize = 1024;
+
 /// How many trees of a type are made.
 const TREES: u64 = 200;
 
@@ -155,4 +158,55 @@ fn other_bytes_are_no_packed_forms() {
             form[at] = byte;
         }
     }
+}
+
+/// Returns a `return` of a name in so many blocks.
+fn blocks(levels: usize) -> Statement {
+    let name = Expression::from(Ident::from("a"));
+    let innermost = Statement::from(ReturnStatement::from(name));
+    (0..levels).fold(innermost, |inside, _| {
+        let expression = Expression::from(true).into();
+        let body = CompoundStatement {
+            attributes: Vec::new(),
+            statements: vec![inside.into()],
+        };
+        Statement::from(IfStatement {
+            attributes: Vec::new(),
+            if_clause: IfClause { expression, body },
+            else_if_clauses: Vec::new(),
+            else_clause: None,
+        })
+    })
+}
+
+/// Returns a sum in so many parentheses, each the right operand of another sum.
+fn sums(levels: usize) -> Expression {
+    let name = || Expression::from(Ident::from("a"));
+    (0..levels).fold(name(), |inside, _| {
+        Expression::from(BinaryExpression {
+            operator: BinaryOperator::Addition,
+            right: inside.into(),
+            left: name().into(),
+        })
+    })
+}
+
+/// Checks that trees with so many levels have a packed form, and deeper ones none.
+fn check_levels<T: Packed + Unpacked + PartialEq>(tree: impl Fn(usize) -> T, levels: usize) {
+    let deepest = tree(levels);
+    let form = to_packed(&deepest).expect("a tree that is not too deep");
+    assert!(from_packed(&form) == Ok(deepest));
+    for levels in [levels + 1, 10 * levels] {
+        assert_eq!(to_packed(&tree(levels)), None);
+    }
+}
+
+#[test]
+fn trees_that_nest_too_deep_have_no_packed_form() {
+    let thread = std::thread::Builder::new().stack_size(STACK << 10);
+    let run = || {
+        check_levels(blocks, super::DEEPEST);
+        check_levels(sums, super::DEEPEST);
+    };
+    thread.spawn(run).expect("a thread").join().expect("holds");
 }

@@ -69,19 +69,19 @@ impl<'t> Writer<'t> {
     }
 
     /// Writes the number of a rule.
-    #[inline(always)]
+    #[inline]
     fn rule(&mut self, rule: u8) {
         self.form.push(rule);
     }
 
     /// Writes a number.
-    #[inline(always)]
+    #[inline]
     fn number(&mut self, number: usize) {
         self.form.extend_from_slice(&(number as u64).to_le_bytes());
     }
 
     /// Writes a span.
-    #[inline(always)]
+    #[inline]
     fn span(&mut self, span: Span) {
         let mut bytes = [0; 16];
         let (start, end) = (span.start & self.span_bits, span.end & self.span_bits);
@@ -91,7 +91,7 @@ impl<'t> Writer<'t> {
     }
 
     /// Writes a text.
-    #[inline(always)]
+    #[inline]
     fn text(&mut self, text: &str) {
         self.number(text.len());
         self.form.extend_from_slice(text.as_bytes());
@@ -99,7 +99,7 @@ impl<'t> Writer<'t> {
 
     /// Opens an expression or a statement, and returns whether it is to be written: not too many
     /// are open.
-    #[inline(always)]
+    #[inline]
     fn open(&mut self) -> bool {
         if self.depth == DEEPEST {
             self.is_too_deep = true;
@@ -110,14 +110,14 @@ impl<'t> Writer<'t> {
     }
 
     /// Closes what was opened last.
-    #[inline(always)]
+    #[inline]
     fn close(&mut self) {
         self.depth -= 1;
     }
 
     /// Writes items, each after the number of a rule: one for the last, one for those before it,
     /// and one for no items.
-    #[inline(always)]
+    #[inline]
     fn list<T>(
         &mut self,
         (none, before, last): (u8, u8, u8),
@@ -136,7 +136,7 @@ impl<'t> Writer<'t> {
     }
 
     /// Writes what may be left out, after the number of a rule.
-    #[inline(always)]
+    #[inline]
     fn optional<T>(&mut self, rule: u8, part: &'t Option<T>, write: impl Fn(&mut Self, &'t T)) {
         match part {
             None => self.rule(NOTHING),

@@ -6,7 +6,7 @@ use crate::syntax::*;
 
 impl Reader<'_> {
     /// Reads attributes, on a line of their own or before what they are on.
-    #[inline(always)]
+    #[inline]
     pub(super) fn attributes(&mut self) -> Option<Attributes> {
         match self.rule()? {
             NOTHING => Some(Vec::new()),

@@ -27,7 +27,7 @@ impl Reader<'_> {
     }
 
     /// Reads what is after the number of a rule in an expression that is leftmost.
-    #[inline(always)]
+    #[inline]
     fn leftmost(&mut self, rule: u8) -> Option<Box<Expression>> {
         match rule {
             NAME => {
@@ -109,7 +109,7 @@ impl Reader<'_> {
     }
 
     /// Reads what is after what is before it, and after the number of a rule.
-    #[inline(always)]
+    #[inline]
     fn link(&mut self, rule: u8, left: ExpressionNode) -> Option<Box<Expression>> {
         match rule {
             COMPONENT | COMPONENT_OF_INT => {
@@ -192,7 +192,7 @@ impl Reader<'_> {
 const EXACT_DIGITS: usize = 18;
 
 /// Reads a whole number in decimal.
-#[inline(always)]
+#[inline]
 fn integer(text: &[u8]) -> Option<i64> {
     if text.len() > EXACT_DIGITS || !text.iter().all(u8::is_ascii_digit) {
         return other_integer(text);
@@ -208,7 +208,7 @@ fn other_integer(text: &[u8]) -> Option<i64> {
 }
 
 /// The operator before an operand that is written so.
-#[inline(always)]
+#[inline]
 fn unary_operator(text: &[u8]) -> Option<UnaryOperator> {
     Some(match text {
         b"!" => UnaryOperator::LogicalNegation,
@@ -221,7 +221,7 @@ fn unary_operator(text: &[u8]) -> Option<UnaryOperator> {
 }
 
 /// The operator between operands that is written so.
-#[inline(always)]
+#[inline]
 fn binary_operator(text: &[u8]) -> Option<BinaryOperator> {
     Some(match text {
         b"||" => BinaryOperator::ShortCircuitOr,

@@ -312,7 +312,7 @@ impl Reader<'_> {
 }
 
 /// The operator of an assignment that is written so.
-#[inline(always)]
+#[inline]
 fn assignment_operator(text: &[u8]) -> Option<AssignmentOperator> {
     Some(match text {
         b"=" => AssignmentOperator::Equal,

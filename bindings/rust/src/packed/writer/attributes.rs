@@ -82,7 +82,7 @@ impl<'t> Writer<'t> {
     }
 
     /// Writes attributes on a line of their own.
-    #[inline(always)]
+    #[inline]
     pub(super) fn attribute_line(&mut self, attributes: &'t [AttributeNode]) {
         if attributes.is_empty() {
             return self.rule(NOTHING);
@@ -91,7 +91,7 @@ impl<'t> Writer<'t> {
     }
 
     /// Writes attributes before what they are on.
-    #[inline(always)]
+    #[inline]
     pub(super) fn attributes_before(&mut self, attributes: &'t [AttributeNode]) {
         if attributes.is_empty() {
             return self.rule(NOTHING);

@@ -16,7 +16,7 @@ pub enum Link<'t> {
 
 impl<'t> Link<'t> {
     /// Returns what an expression ends with, if something is before it.
-    #[inline(always)]
+    #[inline]
     fn last(expression: &'t Expression) -> Option<Self> {
         match expression {
             Expression::NamedComponent(component) => Some(Link::Component(component)),
@@ -27,7 +27,7 @@ impl<'t> Link<'t> {
     }
 
     /// Returns what is before it.
-    #[inline(always)]
+    #[inline]
     fn left(self) -> &'t ExpressionNode {
         match self {
             Link::Component(component) => &component.base,
@@ -127,7 +127,7 @@ impl Packed for TypeExpression {
 
 impl<'t> Writer<'t> {
     /// Writes a span and an expression.
-    #[inline(always)]
+    #[inline]
     pub(super) fn expression_node(&mut self, node: &'t ExpressionNode) {
         self.span(node.span);
         node.node().pack(self);
@@ -156,7 +156,7 @@ impl<'t> Writer<'t> {
     }
 
     /// Writes an expression in which nothing has something else before it.
-    #[inline(always)]
+    #[inline]
     fn leftmost(&mut self, expression: &'t Expression) {
         match expression {
             Expression::Literal(literal) => literal.pack(self),
@@ -203,7 +203,7 @@ impl<'t> Writer<'t> {
     }
 
     /// Writes a link, with the span of what is before it.
-    #[inline(always)]
+    #[inline]
     fn link(&mut self, link: Link<'t>) {
         let left = link.left();
         match link {
