@@ -44,7 +44,6 @@ mod layout;
 mod lines;
 mod minified;
 mod nested;
-#[cfg(test)]
 mod packed;
 pub mod parser;
 pub mod span;
