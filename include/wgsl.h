@@ -261,7 +261,9 @@ enum wgsl_token_kind {
 
 /* The exports of the library, which the functions below call. They are for languages that read no
  * header. They test no pointer and no number: none of theirs may be null, even with the number 0,
- * and what is counted has at most WGSL_GREATEST bytes. */
+ * and what is counted has at most WGSL_GREATEST bytes. wgsl_c_packed_tree and wgsl_c_print_packed
+ * are for the Rust crate: they are wgsl_tree and wgsl_print with the packed form of the tree, which
+ * docs/TREE.md describes, in place of JSON; what is printed does not depend on the kind. */
 uint32_t wgsl_c_format(const uint8_t *text, size_t size, uint8_t *buffer, size_t buffer_size,
                        struct wgsl_answer *answer);
 uint32_t wgsl_c_tidy(const struct wgsl_layout *layout, const uint8_t *text, size_t size,
@@ -279,6 +281,10 @@ uint32_t wgsl_c_tree(uint32_t kind, const uint8_t *text, size_t size, uint8_t *b
                      size_t buffer_size, struct wgsl_answer *answer);
 uint32_t wgsl_c_print(uint32_t kind, const uint8_t *form, size_t size, uint8_t *buffer,
                       size_t buffer_size, struct wgsl_answer *answer);
+uint32_t wgsl_c_packed_tree(uint32_t kind, const uint8_t *text, size_t size, uint8_t *buffer,
+                            size_t buffer_size, struct wgsl_answer *answer);
+uint32_t wgsl_c_print_packed(const uint8_t *form, size_t size, uint8_t *buffer, size_t buffer_size,
+                             struct wgsl_answer *answer);
 uint32_t wgsl_c_tokens(const uint8_t *text, size_t size, struct wgsl_token *buffer,
                        size_t buffer_size, struct wgsl_answer *answer);
 uint32_t wgsl_c_tokens_with_comments(const uint8_t *text, size_t size, struct wgsl_token *buffer,

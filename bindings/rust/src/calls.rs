@@ -2,7 +2,7 @@
 
 use crate::fault::Fault;
 use crate::ffi::{
-    begins_with_list_call, lists_call, nesting_call, text_call, tokens_call, Answer, Call, Place,
+    begins_with_list_call, bytes_call, lists_call, nesting_call, tokens_call, Answer, Call, Place,
     PlacedKind, Said,
 };
 use crate::kind::TokenKind;
@@ -23,10 +23,10 @@ const LEAST_SIZE: usize = 1024;
 
 /// Makes a call that writes bytes, with a buffer of about a size, and again if that was too small.
 /// Returns what it wrote too.
-fn written(call: Call<'_>, text: &str, size: usize) -> (Said, Vec<u8>) {
+fn written(call: Call<'_>, text: &[u8], size: usize) -> (Said, Vec<u8>) {
     let mut buffer = Vec::with_capacity(size.max(LEAST_SIZE));
     loop {
-        let said = text_call(call, text, &mut buffer);
+        let said = bytes_call(call, text, &mut buffer);
         let size = said.answer.size;
         if size <= buffer.capacity() {
             return (said, buffer);
@@ -42,9 +42,14 @@ fn utf8(bytes: Vec<u8>) -> String {
 
 /// The answer of a call and the text that it writes, with a buffer of about a size at first.
 pub(crate) fn answered(call: Call<'_>, text: &str, size: usize) -> Result<(Answer, String), Fault> {
-    let (said, bytes) = written(call, text, size);
+    answered_bytes(call, text, size).map(|(answer, bytes)| (answer, utf8(bytes)))
+}
+
+/// The same with the bytes that it writes.
+fn answered_bytes(call: Call<'_>, text: &str, size: usize) -> Result<(Answer, Vec<u8>), Fault> {
+    let (said, bytes) = written(call, text.as_bytes(), size);
     match said.status {
-        DONE => Ok((said.answer, utf8(bytes))),
+        DONE => Ok((said.answer, bytes)),
         REFUSED => Err(Fault::told(text, &said.answer, &bytes)),
         _ => Err(Fault::out_of_memory()),
     }
@@ -297,7 +302,23 @@ pub(crate) fn form_of(what: u32, text: &str) -> Result<String, Fault> {
 
 /// The printed text of the node of a kind that a form describes, unless allocation fails.
 pub(crate) fn print_of(kind: u32, form: &str) -> Option<String> {
-    let (said, bytes) = written(Call::Print(kind), form, form.len() / 4);
+    printed(Call::Print(kind), form.as_bytes(), form.len() / 4)
+}
+
+/// The packed form of the tree with a number.
+pub(crate) fn packed_form_of(what: u32, text: &str) -> Result<Vec<u8>, Fault> {
+    let packed = answered_bytes(Call::PackedTree(what), text, text.len() * 10);
+    packed.map(|(_, form)| form)
+}
+
+/// The printed text of the node that a packed form describes, unless allocation fails.
+pub(crate) fn packed_print_of(form: &[u8]) -> Option<String> {
+    printed(Call::PrintPacked, form, form.len() / 2)
+}
+
+/// The text that a call prints of a form, unless allocation fails.
+fn printed(call: Call<'_>, form: &[u8], size: usize) -> Option<String> {
+    let (said, bytes) = written(call, form, size);
     let text = utf8(bytes);
     assert_ne!(said.status, REFUSED, "the form of a tree is read: {text}");
     (said.status == DONE).then_some(text)

@@ -125,6 +125,21 @@ extern "C" {
         room_size: usize,
         answer: *mut Answer,
     ) -> u32;
+    fn wgsl_c_packed_tree(
+        what: u32,
+        text: *const u8,
+        size: usize,
+        room: *mut u8,
+        room_size: usize,
+        answer: *mut Answer,
+    ) -> u32;
+    fn wgsl_c_print_packed(
+        form: *const u8,
+        size: usize,
+        room: *mut u8,
+        room_size: usize,
+        answer: *mut Answer,
+    ) -> u32;
     fn wgsl_c_tokens(
         text: *const u8,
         size: usize,
@@ -159,7 +174,7 @@ pub struct Said {
     pub answer: Answer,
 }
 
-/// A call that reads a text and writes bytes.
+/// A call that reads bytes and writes others.
 #[derive(Clone, Copy, Debug)]
 pub enum Call<'k> {
     /// The printed text.
@@ -177,20 +192,24 @@ pub enum Call<'k> {
     Tree(u32),
     /// The printed text of the form of a node of the kind with this number.
     Print(u32),
+    /// The packed form of the tree with this number.
+    PackedTree(u32),
+    /// The printed text of a packed form.
+    PrintPacked,
 }
 
 /// Makes a call, which writes into the buffer as far as its capacity. The buffer has what the call
 /// wrote then, or nothing, if that does not fit.
-pub fn text_call(call: Call<'_>, text: &str, room: &mut Vec<u8>) -> Said {
+pub fn bytes_call(call: Call<'_>, text: &[u8], room: &mut Vec<u8>) -> Said {
     room.clear();
     let mut answer = Answer::default();
     let (at, size) = (text.as_ptr(), text.len());
     let (to, room_size) = (room.as_mut_ptr(), room.capacity());
-    // SAFETY: the declarations above are those of the exports. The texts and the buffer are those
-    // of `&str`s and one `&mut Vec`, which are never null, are apart from each other and from
-    // the answer, and are borrowed for the call, and no slice of Rust's is longer than the
-    // exports take; the layout lives as long as the call. An export requires nothing else,
-    // does not read the buffer, and writes nowhere else.
+    // SAFETY: the declarations above are those of the exports. The bytes, the text and the buffer
+    // are those of a slice, a `&str` and a `&mut Vec`, which are never null, are apart from each
+    // other and from the answer, and are borrowed for the call, and no slice of Rust's is longer
+    // than the exports take; the layout lives as long as the call. An export requires nothing
+    // else, does not read the buffer, and writes nowhere else.
     let status = unsafe {
         match call {
             Call::Format => wgsl_c_format(at, size, to, room_size, &mut answer),
@@ -203,6 +222,10 @@ pub fn text_call(call: Call<'_>, text: &str, room: &mut Vec<u8>) -> Said {
             Call::Recognize => wgsl_c_recognize(at, size, to, room_size, &mut answer),
             Call::Tree(what) => wgsl_c_tree(what, at, size, to, room_size, &mut answer),
             Call::Print(what) => wgsl_c_print(what, at, size, to, room_size, &mut answer),
+            Call::PackedTree(what) => {
+                wgsl_c_packed_tree(what, at, size, to, room_size, &mut answer)
+            }
+            Call::PrintPacked => wgsl_c_print_packed(at, size, to, room_size, &mut answer),
         }
     };
     if answer.size <= room_size {
@@ -217,7 +240,7 @@ pub fn text_call(call: Call<'_>, text: &str, room: &mut Vec<u8>) -> Said {
 #[cfg(test)]
 pub fn snippet_call(name: &str, text: &str, room: &mut [u8]) -> Said {
     let mut answer = Answer::default();
-    // SAFETY: as in `text_call`, of two texts, neither of which is written to.
+    // SAFETY: as in `bytes_call`, of two texts, neither of which is written to.
     let status = unsafe {
         wgsl_c_snippet(
             name.as_ptr(),
@@ -238,7 +261,7 @@ pub fn tokens_call(text: &str, comments: bool, room: &mut [PlacedKind]) -> Said 
     let mut answer = Answer::default();
     let (at, size) = (text.as_ptr(), text.len());
     let (to, room_size) = (room.as_mut_ptr(), room.len());
-    // SAFETY: as in `text_call`; `PlacedKind` has the layout of the struct that the exports write.
+    // SAFETY: as in `bytes_call`; `PlacedKind` has the layout of the struct that the exports write.
     let status = unsafe {
         if comments {
             wgsl_c_tokens_with_comments(at, size, to, room_size, &mut answer)
@@ -252,7 +275,7 @@ pub fn tokens_call(text: &str, comments: bool, room: &mut [PlacedKind]) -> Said 
 /// Writes the places of the template lists of a text, as many as fit into the buffer.
 pub fn lists_call(text: &str, room: &mut [Place]) -> Said {
     let mut answer = Answer::default();
-    // SAFETY: as in `text_call`; `Place` has the layout of the struct that the export writes.
+    // SAFETY: as in `bytes_call`; `Place` has the layout of the struct that the export writes.
     let status = unsafe {
         wgsl_c_lists(
             text.as_ptr(),
@@ -268,7 +291,7 @@ pub fn lists_call(text: &str, room: &mut [Place]) -> Said {
 /// Checks whether a text begins with a template list: the size is 1 where it does.
 pub fn begins_with_list_call(text: &str) -> Said {
     let mut answer = Answer::default();
-    // SAFETY: as in `text_call`; there is no buffer.
+    // SAFETY: as in `bytes_call`; there is no buffer.
     let status = unsafe { wgsl_c_begins_with_list(text.as_ptr(), text.len(), &mut answer) };
     Said { status, answer }
 }
@@ -276,7 +299,7 @@ pub fn begins_with_list_call(text: &str) -> Said {
 /// Returns how deep a text nests, as the size.
 pub fn nesting_call(text: &str) -> Said {
     let mut answer = Answer::default();
-    // SAFETY: as in `text_call`; there is no buffer.
+    // SAFETY: as in `bytes_call`; there is no buffer.
     let status = unsafe { wgsl_c_nesting(text.as_ptr(), text.len(), &mut answer) };
     Said { status, answer }
 }

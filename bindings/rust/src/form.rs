@@ -26,6 +26,7 @@ use std::fmt;
 use std::str::FromStr;
 
 use crate::nested::Coded;
+use crate::packed::Unpacked;
 use crate::visit::Accept;
 pub(crate) use holes::Kind;
 pub(crate) use reader::Reader;
@@ -83,7 +84,7 @@ impl<T: Written + Coded + Accept> Form for T {}
 
 /// A tree that is read from a text by itself: a module, a directive, a declaration, a statement or
 /// an expression.
-pub trait Source: Form + FromStr<Err = Fault> + sealed::Numbered {}
+pub trait Source: Form + FromStr<Err = Fault> + sealed::Numbered + Unpacked {}
 
 /// What only this crate gives a type.
 pub(crate) mod sealed {

@@ -44,6 +44,7 @@ mod layout;
 mod lines;
 mod minified;
 mod nested;
+mod packed;
 pub mod parser;
 pub mod span;
 pub mod syntax;

@@ -57,10 +57,12 @@
 //! [`DiagnosticAttribute`], [`InterpolateAttribute`], [`WorkgroupSizeAttribute`] and
 //! [`CustomAttribute`] are printed as an [`Attribute`] only.
 
+use crate::calls::packed_form_of;
 use crate::fault::Fault;
 use crate::form::sealed::{Numbered, Written};
 use crate::form::{from_form, text_form, FormError, FormErrorKind, Reader, Source, Writer};
 use crate::nested::{Code, Coded, Copies};
+use crate::packed::{from_packed, Unread};
 use crate::visit::{Accept, Visit, VisitMut, Walk};
 use std::str::FromStr;
 
@@ -127,6 +129,14 @@ pub type DeclarationStatement = Declaration;
 
 /// The tree that a text is.
 fn tree_of<T: Source>(text: &str) -> Result<T, Fault> {
+    match from_packed(&packed_form_of(T::NUMBER, text)?) {
+        Err(Unread::TooDeep) => deep_tree_of(text),
+        read => Ok(read.expect("the library writes the packed form of its trees")),
+    }
+}
+
+/// The same of a tree that nests deep.
+fn deep_tree_of<T: Source>(text: &str) -> Result<T, Fault> {
     let form = text_form::<T>(text)?;
     Ok(from_form(&form).expect("the library writes the form of its trees"))
 }

@@ -83,6 +83,14 @@ macro_rules! words {
             }
         }
 
+        #[cfg(test)]
+        impl crate::packed::Made for $name {
+            fn made(from: &mut crate::packed::Random) -> Self {
+                let words = [$($name::$variant,)*];
+                words[from.below(words.len())]
+            }
+        }
+
         impl Coded for $name {
             fn code<'t>(&'t self, code: &mut Code<'t>) {
                 code.text(self.word());

@@ -2,6 +2,7 @@
 
 use super::node_enums::VARIANTS;
 use super::TranslationUnit;
+use crate::form::{from_form, text_form};
 use std::cell::RefCell;
 use std::collections::BTreeSet;
 
@@ -20,7 +21,8 @@ const EVERY_KIND: &str = include_str!("../../tests/every_kind.wgsl");
 
 #[test]
 fn one_text_has_every_variant() {
-    let read: TranslationUnit = EVERY_KIND.parse().expect("a module");
+    let form = text_form::<TranslationUnit>(EVERY_KIND).expect("a module");
+    let read: TranslationUnit = from_form(&form).expect("its form");
     assert!(!read.global_declarations.is_empty());
     let all = VARIANTS.iter().copied().collect();
     READ.with_borrow(|read| assert_eq!(*read, all));

@@ -70,6 +70,16 @@ macro_rules! structs {
             declared_ident!($first $($field)*);
             own_attributes!($first);
         }
+
+        #[cfg(test)]
+        impl crate::packed::Made for $name {
+            fn made(from: &mut crate::packed::Random) -> Self {
+                $name {
+                    $first: crate::packed::Made::made(from),
+                    $($field: crate::packed::Made::made(from),)*
+                }
+            }
+        }
     )*
     };
 }
@@ -135,6 +145,24 @@ macro_rules! enums {
                         $(either!(held.accept_mut(visitor), $held);)?
                     }
                 )*}
+            }
+        }
+
+        #[cfg(test)]
+        impl crate::packed::Made for $name {
+            fn made(from: &mut crate::packed::Random) -> Self {
+                #[allow(dead_code)]
+                enum Variant {
+                    $($variant,)*
+                }
+                let variants = [$(Variant::$variant as usize,)*];
+                let chosen = from.below(variants.len());
+                $(
+                    if chosen == Variant::$variant as usize {
+                        return $name::$variant $((<$held as crate::packed::Made>::made(from)))?;
+                    }
+                )*
+                unreachable!("one of the variants is chosen")
             }
         }
     )*

@@ -1,13 +1,38 @@
 //! The printed texts of nodes.
 
 use super::*;
-use crate::calls::print_of;
+use crate::calls::{packed_print_of, print_of};
+use crate::packed::{to_packed, Packed};
 use std::fmt;
 
-/// Prints the node of a kind, which has a number, that a form describes.
-fn print(kind: u32, form: Writer<'_>, f: &mut fmt::Formatter<'_>) -> fmt::Result {
-    let text = print_of(kind, &form.finish()).ok_or(fmt::Error)?;
-    f.write_str(&text)
+/// Prints a node, which is of a kind with a number, or is what a variant of that kind holds.
+fn print<T: Packed + Written>(
+    node: &T,
+    kind: u32,
+    variant: Option<&str>,
+    f: &mut fmt::Formatter<'_>,
+) -> fmt::Result {
+    let text = match to_packed(node) {
+        Some(form) => packed_print_of(&form),
+        None => deep_print_of(node, kind, variant),
+    };
+    f.write_str(&text.ok_or(fmt::Error)?)
+}
+
+/// The printed text of a node that nests too deep for a packed form, unless allocation fails.
+#[cold]
+fn deep_print_of<T: Written>(node: &T, kind: u32, variant: Option<&str>) -> Option<String> {
+    let mut form = Writer::without_spans();
+    if let Some(variant) = variant {
+        form.push_str("{\"");
+        form.push_str(variant);
+        form.push_str("\":");
+    }
+    node.write(&mut form);
+    if variant.is_some() {
+        form.push('}');
+    }
+    print_of(kind, &form.finish())
 }
 
 /// The kinds of nodes that the library prints, with their numbers in `wgsl.h`.
@@ -20,9 +45,7 @@ macro_rules! prints {
         impl fmt::Display for $name {
             /// Prints the node: see [Printing](crate::syntax#printing).
             fn fmt(&self, f: &mut fmt::Formatter<'_>) -> fmt::Result {
-                let mut form = Writer::without_spans();
-                self.write(&mut form);
-                print(Self::NUMBER, form, f)
+                print(self, Self::NUMBER, None, f)
             }
         }
     )*};
@@ -36,11 +59,7 @@ macro_rules! variant_prints {
         impl fmt::Display for $name {
             /// Prints the node: see [Printing](crate::syntax#printing).
             fn fmt(&self, f: &mut fmt::Formatter<'_>) -> fmt::Result {
-                let mut form = Writer::without_spans();
-                form.push_str(concat!("{\"", stringify!($variant), "\":"));
-                self.write(&mut form);
-                form.push('}');
-                print($kind::NUMBER, form, f)
+                print(self, $kind::NUMBER, Some(stringify!($variant)), f)
             }
         }
     )*};
