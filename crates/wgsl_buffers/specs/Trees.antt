@@ -2,6 +2,7 @@
 use Rattle.std.specs.Prelude.{◌≡◌, ◌==◌, ℕ, if◌then◌else◌, List, Result, chars, string_bytes}
 use Rattle.std.specs.declared.string.String.{String}
 use Rattle.std.specs.declared.alloc.Global.{Global}
+use Rattle.std.specs.declared.vec.Vec.{Vec}
 use Rattle.wgsl_model.specs.Grammar.Symbols.{Symbol, Value, Symbol.unit, Symbol.global_directive, Symbol.global_declaration, Symbol.statement, Symbol.expression}
 use Rattle.wgsl_model.specs.SourceTrees.{IsTreeOf}
 use Rattle.wgsl_model.specs.Trees.Expressions.{ExpressionNode, expression_node}

@@ -39,9 +39,9 @@ fn printed<T: FromForm + fmt::Display + Drop>(
 /// The printed text of the node of the kind that has a number, if one has.
 fn printed_kind(alloc: Global, what: u32, form: &str) -> Option<Result<String, FormError>>
     ensures { MatchOption result (16 < what) (λ printed. (what ≤ 16)
-        × IfOk printed (λ text. IsPrint (kind_of what) form.now (string_bytes text))
+        × (IfOk printed (λ text. IsPrint (kind_of what) form.now (string_bytes text))
         × IfErr printed (λ error. (error.kind ≡ reasons.OutOfMemory)
-        ⊎ IsNoForm (kind_of what) form.now)) }
+        ⊎ IsNoForm (kind_of what) form.now))) }
 {
     match what {
         0 => Some(printed::<TranslationUnit>(alloc, form)),
