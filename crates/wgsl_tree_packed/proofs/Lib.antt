@@ -1,3 +1,4 @@
 pub mod Lists
 pub mod Chains
 pub mod Views
+pub mod Statements

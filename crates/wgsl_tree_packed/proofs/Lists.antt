@@ -1,7 +1,7 @@
 -- What is written one part after another, and lists of which some items are written.
 use Rattle.std.proofs.Common.{ℕ, ◌≡◌, ◌≢◌, ◌==◌, ◌<◌, ◌≤◌, ◌+◌, refl, sym, ◌∙◌, ap, arith, List, [], ◌∷◌, ◌++◌, map, length, drop, get_or, append_assoc, if◌then◌else◌}
 use Rattle.std.proofs.lemmas.Bool.{ne_eqb}
-use Rattle.std.proofs.lemmas.List.{append-nil, at_drop_more, drop_all, length-drop, length-map}
+use Rattle.std.proofs.lemmas.List.{append-nil, at_drop_all, at_drop_more, length-drop, length-map}
 use Rattle.wgsl_model_packed.specs.Expressions.{packed_items, packed_list, packed_expressions, packed_further, packed_expression_node, rule_before}
 use Rattle.wgsl_model_packed.specs.Rules.{nothing_rule, nodes_rule, node_rule}
 use Rattle.wgsl_span.specs.declared.Spanned.{Spanned}
@@ -18,11 +18,21 @@ pub one_written : (o p a rest whole : List ℕ) → p ≡ o ++ a → o ++ (a ++ 
     → p ++ rest ≡ whole
 one_written o p a rest whole e h = ap (λ q. q ++ rest) e ∙ append_assoc o a rest ∙ h
 
--- two parts are written, and the rest is left
-pub two_written : (o p q a b rest whole : List ℕ) → p ≡ o ++ a → q ≡ p ++ b
-    → o ++ (a ++ (b ++ rest)) ≡ whole → q ++ rest ≡ whole
-two_written o p q a b rest whole e f h =
-    one_written p q b rest whole f (one_written o p a (b ++ rest) whole e h)
+-- an item of a list is written, and the rest is left
+pub step_written : {X : Type 0} (F : List X → List ℕ) (items : List X) (k : ℕ) (x : X)
+    (o p a rest whole : List ℕ) → k < length items → x ≡ get_or items k x
+    → F (x ∷ drop (k + 1) items) ≡ a ++ rest → p ≡ o ++ a
+    → o ++ F (drop k items) ≡ whole → p ++ rest ≡ whole
+step_written F items k x o p a rest whole h is parts e so_far =
+    one_written o p a rest whole e (ap (λ t. o ++ t) (sym parts
+    ∙ ap (λ y. F (y ∷ drop (k + 1) items)) is ∙ sym (at_drop_more F items k x h)) ∙ so_far)
+
+-- all items are written, and then what is left without items
+pub all_written : {X : Type 0} (F : List X → List ℕ) (items : List X) (k : ℕ)
+    (p q whole : List ℕ) → length items ≤ k → q ≡ p ++ F []
+    → p ++ F (drop k items) ≡ whole → q ≡ whole
+all_written F items k p q whole h e so_far =
+    e ∙ ap (λ t. p ++ t) (sym (at_drop_all F items k h)) ∙ so_far
 
 -- the rule of an item, by how many are after it
 by_number : {X : Type 0} (before last after : ℕ) (xs : List X) → after ≡ length xs
@@ -44,12 +54,10 @@ item_written before last packed view items k left rule x o p q whole h is count 
     let rest = packed_items before last packed (map view after) in
     let many : left ≡ length (map view after) =
     simp (length-map, length-drop) (omega (arith, count)) in
-    two_written o p q (rule ∷ []) (packed (view x)) rest whole one two
-    (ap (λ r. o ++ (r ∷ (packed (view x) ++ rest)))
-    (e ∙ sym (by_number before last left (map view after) many))
-    ∙ ap (λ y. o ++ packed_items before last packed (map view (y ∷ after))) is
-    ∙ ap (λ t. o ++ t) (sym (at_drop_more (λ xs. packed_items before last packed (map view xs))
-    items k x h)) ∙ so_far)
+    step_written (λ xs. packed_items before last packed (map view xs)) items k x o q
+    (rule ∷ packed (view x)) rest whole h is
+    (ap (λ r. r ∷ (packed (view x) ++ rest)) (by_number before last left (map view after) many ∙ sym e))
+    (two_parts o p q (rule ∷ []) (packed (view x)) one two) so_far
 
 -- all items
 pub list_written : {T X : Type 0} (none before last : ℕ) (packed : X → List ℕ) (view : T → X)
@@ -59,9 +67,8 @@ pub list_written : {T X : Type 0} (none before last : ℕ) (packed : X → List 
     → p ≡ o ++ packed_list none before last packed (map view items)
 list_written none before last packed view [] k o p h some so_far = absurd (some refl)
 list_written none before last packed view (x ∷ xs) k o p h some so_far =
-    sym (append-nil p)
-    ∙ ap (λ ys. p ++ packed_items before last packed (map view ys)) (sym (drop_all k (x ∷ xs) h))
-    ∙ so_far
+    all_written (λ ys. packed_items before last packed (map view ys)) (x ∷ xs) k p p
+    (o ++ packed_items before last packed (map view (x ∷ xs))) h (sym (append-nil p)) so_far
 
 further_nodes : (xs : List (Spanned Expression)) → packed_further (expression_nodes_view xs)
     ≡ packed_items nodes_rule node_rule packed_expression_node (map expression_node_view xs)

@@ -17,8 +17,8 @@ use crate::words::{binary_operator_word, unary_operator_word};
 use std::alloc::AllocError;
 use wgsl_tree_expression::{
     BinaryExpression, Expression, ExpressionNode, FunctionCall, IndexingExpression,
-    LiteralExpression, NamedComponentExpression, ParenthesizedExpression, TemplateArg, TypeExpression,
-    UnaryExpression,
+    LiteralExpression, NamedComponentExpression, ParenthesizedExpression, TemplateArg,
+    TypeExpression, UnaryExpression,
 };
 use wgsl_tree_words::UnaryOperator;
 
@@ -98,10 +98,7 @@ pub fn pack_after(node: &Expression, out: &mut Vec<u8>) -> Result<(), AllocError
 }
 
 #[cycle(expressions)]
-fn pack_parenthesized(
-    node: &ParenthesizedExpression,
-    out: &mut Vec<u8>,
-) -> Result<(), AllocError>
+fn pack_parenthesized(node: &ParenthesizedExpression, out: &mut Vec<u8>) -> Result<(), AllocError>
     ensures { OnOk result (out.new.items
         ≡ out.old.items ++ leftmost (parenthesized_expression_view node.now)) }
 {

@@ -5,7 +5,10 @@ ghost use Rattle.wgsl_model.specs.Printed.Operators.{assignment_operator_text, b
 ghost use Rattle.wgsl_model.specs.Trees.NamedValues.{access_mode_text, address_space_text, builtin_value_text, interpolation_sampling_text, interpolation_type_text, severity_text};
 ghost use Rattle.wgsl_tree_words.specs.View.{access_mode_view, address_space_view, assignment_operator_view, binary_operator_view, builtin_value_view, interpolation_sampling_view, interpolation_type_view, severity_view, unary_operator_view};
 
-use wgsl_tree_words::{DiagnosticSeverity, AddressSpace, AccessMode, BuiltinValue, InterpolationType, InterpolationSampling, UnaryOperator, BinaryOperator, AssignmentOperator};
+use wgsl_tree_words::{
+    AccessMode, AddressSpace, AssignmentOperator, BinaryOperator, BuiltinValue, DiagnosticSeverity,
+    InterpolationSampling, InterpolationType, UnaryOperator,
+};
 
 /// Returns the word of a severity.
 pub fn severity_word(value: DiagnosticSeverity) -> &'static str
