@@ -34,16 +34,32 @@ pub fn pack_text(text: &str, out: &mut Vec<u8>) -> Result<(), AllocError>
 pub fn pack_word(rule: u8, text: &str, out: &mut Vec<u8>) -> Result<(), AllocError>
     ensures { OnOk result (out.new.items ≡ out.old.items ++ (rule ∷ packed_text text.now)) }
 {
-    pack_rule(rule, out)?;
-    pack_text(text, out)
+    out.extend_from_slice(&with_number(rule, text.len()))?;
+    out.extend_from_slice(text.as_bytes())
+}
+
+/// Returns the number of a rule, and a number in 8 bytes, the lowest first.
+fn with_number(rule: u8, number: usize) -> [u8; 9]
+    ensures { result ≡ rule ∷ packed_number number }
+{
+    let [a, b, c, d, e, f, g, h] = (number as u64).to_le_bytes();
+    [rule, a, b, c, d, e, f, g, h]
 }
 
 /// Writes a span: where it starts, and where it ends.
 pub fn pack_span(span: Span, out: &mut Vec<u8>) -> Result<(), AllocError>
     ensures { OnOk result (out.new.items ≡ out.old.items ++ packed_span (span_view span)) }
 {
-    pack_number(span.start, out)?;
-    pack_number(span.end, out)
+    out.extend_from_slice(&span_bytes(span))
+}
+
+/// Returns a span: where it starts, and where it ends.
+fn span_bytes(span: Span) -> [u8; 16]
+    ensures { result ≡ packed_span (span_view span) }
+{
+    let [a, b, c, d, e, f, g, h] = (span.start as u64).to_le_bytes();
+    let [i, j, k, l, m, n, o, p] = (span.end as u64).to_le_bytes();
+    [a, b, c, d, e, f, g, h, i, j, k, l, m, n, o, p]
 }
 
 /// Writes the number of a rule, and a span.
@@ -51,8 +67,16 @@ pub fn pack_placed(rule: u8, span: Span, out: &mut Vec<u8>) -> Result<(), AllocE
     ensures { OnOk result (out.new.items
         ≡ out.old.items ++ (rule ∷ packed_span (span_view span))) }
 {
-    pack_rule(rule, out)?;
-    pack_span(span, out)
+    out.extend_from_slice(&with_span(rule, span))
+}
+
+/// Returns the number of a rule, and a span.
+fn with_span(rule: u8, span: Span) -> [u8; 17]
+    ensures { result ≡ rule ∷ packed_span (span_view span) }
+{
+    let [a, b, c, d, e, f, g, h] = (span.start as u64).to_le_bytes();
+    let [i, j, k, l, m, n, o, p] = (span.end as u64).to_le_bytes();
+    [rule, a, b, c, d, e, f, g, h, i, j, k, l, m, n, o, p]
 }
 
 /// Returns the rule of an item of a list, by how many items are after it.
