@@ -2,3 +2,4 @@ pub mod Lists
 pub mod Chains
 pub mod Views
 pub mod Statements
+pub mod Units
