@@ -1,10 +1,10 @@
 -- What is leftmost in an expression, and what follows it.
-use Rattle.std.proofs.Common.{ℕ, ◌≡◌, refl, sym, ◌∙◌, ap, List, [], ◌∷◌, ◌++◌, append_assoc}
+use Rattle.std.proofs.Common.{ℕ, ◌≡◌, sym, List, ◌++◌, append_assoc}
 use Rattle.std.proofs.lemmas.List.{append-nil}
 use Rattle.wgsl_model.specs.Trees.Expressions.{Expression, ExpressionNode, expression_node, literal, parenthesized, named_component, indexing, unary, binary, function_call, type_or_identifier}
 use Rattle.wgsl_model.specs.Printed.Expressions.{expression_in}
 use Rattle.wgsl_model.specs.Printed.Operators.{binary_operator_text}
-use Rattle.wgsl_model_packed.specs.Printing.{packed_text, packed_span}
+use Rattle.wgsl_model_packed.specs.Printing.{packed_text}
 use Rattle.wgsl_model_packed.specs.Expressions.{leftmost, link, packed_expression_node, component_rule_of}
 use Rattle.wgsl_model_packed.specs.Rules.{index_rule, binary_rule}
 use Rattle.wgsl_tree_expression.specs.Chains.{left_of}

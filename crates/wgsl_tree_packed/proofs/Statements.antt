@@ -1,6 +1,6 @@
 -- Statements in their packed form: what is written of an item of a block, and by what a block and
 -- a statement end.
-use Rattle.std.proofs.Common.{ℕ, ◌≡◌, ◌<◌, ◌≤◌, ◌+◌, refl, sym, ◌∙◌, ap, Bool, true, false, List, [], ◌∷◌, ◌++◌, length, drop, get_or, append_assoc, if◌then◌else◌}
+use Rattle.std.proofs.Common.{ℕ, ◌≡◌, ◌<◌, ◌≤◌, ◌+◌, refl, sym, ◌∙◌, ap, arith, map, Bool, true, false, List, [], ◌∷◌, ◌++◌, length, drop, get_or, append_assoc, if◌then◌else◌}
 use Rattle.std.proofs.lemmas.List.{append-nil, at_drop_all, at_drop_more}
 use Rattle.wgsl_model.specs.Printed.Statements.{is_void}
 use Rattle.wgsl_model.specs.Trees.Attributes.{Attributes}
@@ -8,11 +8,12 @@ use Rattle.wgsl_model.specs.Trees.Statements as plain
 use Rattle.wgsl_model_packed.specs.Attributes.{packed_attribute_line}
 use Rattle.wgsl_model_packed.specs.Printing.{packed_span}
 use Rattle.wgsl_model_packed.specs.Rules.{block_rule, block_end_rule, empty_end_rule, opened_end_rule, empty_opened_end_rule, ended_rule, item_rule, void_item_rule}
-use Rattle.wgsl_model_packed.specs.Statements.{end_of, ended, packed_after, packed_compound, packed_in, packed_opened, packed_statement, packed_unended}
+use Rattle.wgsl_model_packed.specs.Statements.{end_of, end_of_clauses, ended, packed_after, packed_compound, packed_in, packed_opened, packed_statement, packed_unended}
 use Rattle.wgsl_span.specs.declared.Spanned.{Spanned}
 use Rattle.wgsl_span.specs.View.{span_view}
 use Rattle.wgsl_tree_statement.specs.declared.statement.Statement.{Statement}
-use Rattle.wgsl_tree_statement.specs.View.{statement_view, statement_nodes_view}
+use Rattle.wgsl_tree_statement.specs.declared.switch.SwitchClause.{SwitchClause}
+use Rattle.wgsl_tree_statement.specs.View.{statement_view, statement_nodes_view, switch_clause_view}
 use Rattle.wgsl_tree_packed.specs.Statements.{is_ended, packed_block}
 use Rattle.wgsl_tree_packed.proofs.Lists.{all_written, step_written, two_parts}
 
@@ -142,3 +143,9 @@ ended_parts (plain.statement attributes (plain.return_statement x)) = refl
 ended_parts (plain.statement attributes (plain.function_call_statement x)) = refl
 ended_parts (plain.statement attributes (plain.const_assert x)) = refl
 ended_parts (plain.statement attributes (plain.declaration x)) = refl
+
+-- the end of clauses, if there are some
+pub clauses_end : (xs : List SwitchClause) → 0 < length xs
+    → block_end_rule ≡ end_of_clauses (plain.clauses_of (map switch_clause_view xs))
+clauses_end [] h = absurd (omega (arith, h))
+clauses_end (x ∷ xs) h = refl

@@ -6,25 +6,16 @@ use Rattle.wgsl_tree_expression.specs.declared.indexing.IndexingExpression.{Inde
 use Rattle.wgsl_tree_expression.specs.declared.expression.Expression.TheFolds as folds
 use Rattle.wgsl_tree_expression.specs.declared.expression.Expression.TheViews as layers
 use Rattle.wgsl_tree_expression.specs.View as V
+use Rattle.wgsl_tree_expression.proofs.Views.{for_views}
 use Rattle.wgsl_tree_words.specs.View.{binary_operator_view}
 
 pub indexing_view_out : (e : IndexingExpression) → V.indexing_expression_view e
     ≡ plain.indexing (V.expression_node_view (layers.out-IndexingExpression e).base)
     (V.expression_node_view (layers.out-IndexingExpression e).index)
-indexing_view_out e = folds.fold_out-IndexingExpression plain.Expression plain.Expression
-    plain.FunctionCall plain.Expression plain.Expression plain.Expression plain.ExpressionNode
-    plain.TypeExpression plain.Expression V.expression_step V.binary_expression_step
-    V.function_call_step V.indexing_expression_step V.named_component_expression_step
-    V.parenthesized_expression_step V.template_arg_step V.type_expression_step
-    V.unary_expression_step e
+indexing_view_out e = for_views folds.fold_out-IndexingExpression e
 
 pub binary_view_out : (e : BinaryExpression) → V.binary_expression_view e
     ≡ plain.binary (binary_operator_view (layers.out-BinaryExpression e).operator)
     (V.expression_node_view (layers.out-BinaryExpression e).left)
     (V.expression_node_view (layers.out-BinaryExpression e).right)
-binary_view_out e = folds.fold_out-BinaryExpression plain.Expression plain.Expression
-    plain.FunctionCall plain.Expression plain.Expression plain.Expression plain.ExpressionNode
-    plain.TypeExpression plain.Expression V.expression_step V.binary_expression_step
-    V.function_call_step V.indexing_expression_step V.named_component_expression_step
-    V.parenthesized_expression_step V.template_arg_step V.type_expression_step
-    V.unary_expression_step e
+binary_view_out e = for_views folds.fold_out-BinaryExpression e

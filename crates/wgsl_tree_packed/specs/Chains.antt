@@ -1,6 +1,5 @@
 -- What is after the left side of an expression in its packed form.
 use Rattle.std.specs.Prelude.{ℕ, List, [], ◌∷◌, ◌++◌}
-use Rattle.grammar.specs.Tokens.{Span}
 use Rattle.wgsl_model.specs.Printed.Operators.{binary_operator_text}
 use Rattle.wgsl_model.specs.Trees.Expressions.{ExpressionNode, expression_node, Expression, named_component, indexing, binary}
 use Rattle.wgsl_model_packed.specs.Printing.{packed_text, packed_span}

@@ -219,6 +219,7 @@ fn pack_switch(node: &SwitchStatement, out: &mut Vec<u8>) -> Result<(), AllocErr
 }
 
 /// Returns the rule that ends the clauses of a `switch`.
+#[tactic(auto, using(crate::proofs::Statements::clauses_end))]
 fn end_of_clauses(clauses: &Vec<SwitchClause>) -> u8
     ensures { result ≡ end_of_clauses (clauses_of (map switch_clause_view clauses.now.items)) }
 {

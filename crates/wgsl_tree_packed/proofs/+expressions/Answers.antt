@@ -1,4 +1,4 @@
-use Rattle.std.proofs.Common.{arith, ◌≡◌, ◌≢◌, ◌≤◌, ◌-◌, length, [], sym, ap, ◌∙◌, ◌++◌, ◌∷◌, append_assoc, map}
+use Rattle.std.proofs.Common.{arith, ◌≡◌, ◌≢◌, ◌≤◌, ◌-◌, length, [], sym, ap, ◌∙◌, ◌++◌, ◌∷◌, append_assoc}
 use Rattle.std.proofs.lemmas.Result.{on_ok_weaker}
 use Rattle.wgsl_model.specs.Printed.Expressions.{expression_in}
 use Rattle.wgsl_model.specs.Trees.Expressions.{type_expression}
