@@ -1,6 +1,7 @@
 -- Statements in their packed form: what is written of an item of a block, and by what a block and
 -- a statement end.
-use Rattle.std.proofs.Common.{ℕ, ◌≡◌, ◌<◌, ◌≤◌, ◌+◌, refl, sym, ◌∙◌, ap, arith, map, Bool, true, false, List, [], ◌∷◌, ◌++◌, length, drop, get_or, append_assoc, if◌then◌else◌}
+use Rattle.std.proofs.Common.{ℕ, ◌≡◌, ◌==◌, ◌<◌, ◌≤◌, ◌+◌, refl, sym, ◌∙◌, ap, map, Bool, true, false, List, [], ◌∷◌, ◌++◌, length, drop, get_or, append_assoc, if◌then◌else◌}
+use Rattle.std.proofs.lemmas.Bool.{both_ways}
 use Rattle.std.proofs.lemmas.List.{append-nil, at_drop_all, at_drop_more}
 use Rattle.wgsl_model.specs.Printed.Statements.{is_void}
 use Rattle.wgsl_model.specs.Trees.Attributes.{Attributes}
@@ -145,7 +146,7 @@ ended_parts (plain.statement attributes (plain.const_assert x)) = refl
 ended_parts (plain.statement attributes (plain.declaration x)) = refl
 
 -- the end of clauses, if there are some
-pub clauses_end : (xs : List SwitchClause) → 0 < length xs
+pub clauses_end : (xs ys : List SwitchClause) → ys ≡ xs → (length ys == 0) ≡ false
     → block_end_rule ≡ end_of_clauses (plain.clauses_of (map switch_clause_view xs))
-clauses_end [] h = absurd (omega (arith, h))
-clauses_end (x ∷ xs) h = refl
+clauses_end [] ys e h = absurd (both_ways (length ys == 0) h (ap (λ l. length l == 0) e))
+clauses_end (x ∷ xs) ys e h = refl

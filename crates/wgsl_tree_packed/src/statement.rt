@@ -219,11 +219,10 @@ fn pack_switch(node: &SwitchStatement, out: &mut Vec<u8>) -> Result<(), AllocErr
 }
 
 /// Returns the rule that ends the clauses of a `switch`.
-#[tactic(auto, using(crate::proofs::Statements::clauses_end))]
 fn end_of_clauses(clauses: &Vec<SwitchClause>) -> u8
     ensures { result ≡ end_of_clauses (clauses_of (map switch_clause_view clauses.now.items)) }
 {
-    if clauses.is_empty() {
+    if clauses.as_slice().is_empty() {
         EMPTY_END
     } else {
         BLOCK_END
