@@ -1,0 +1,5 @@
+pub mod Lists
+pub mod Chains
+pub mod Views
+pub mod Statements
+pub mod Units

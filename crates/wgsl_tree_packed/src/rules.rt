@@ -1,0 +1,286 @@
+//! Written by tools/tables/packed_rules.py from crates/wgsl_model_packed/rules: their numbers.
+
+/// `false`.
+pub const FALSE: u8 = 0;
+
+/// `true`.
+pub const TRUE: u8 = 1;
+
+/// A whole number without a suffix, in decimal.
+pub const INT: u8 = 2;
+
+/// A whole number with the suffix `i`.
+pub const I32: u8 = 3;
+
+/// A whole number with the suffix `u`.
+pub const U32: u8 = 4;
+
+/// A float without a suffix, by its spelling.
+pub const FLOAT: u8 = 5;
+
+/// A float with the suffix `f`.
+pub const F32: u8 = 6;
+
+/// A float with the suffix `h`.
+pub const F16: u8 = 7;
+
+/// An expression in parentheses.
+pub const PARENTHESIZED: u8 = 8;
+
+/// An operator and its operand.
+pub const UNARY: u8 = 9;
+
+/// The same if both would be read as one operator without the space.
+pub const UNARY_APART: u8 = 10;
+
+/// A call.
+pub const CALL: u8 = 11;
+
+/// A type or identifier without a template, the last of some names, or a keyword.
+pub const NAME: u8 = 12;
+
+/// A type or identifier with a template.
+pub const TEMPLATE: u8 = 13;
+
+/// What is leftmost in a component, an element or an operation, and what follows it.
+pub const CHAIN: u8 = 14;
+
+/// A component of what is before it, which has the span.
+pub const COMPONENT: u8 = 15;
+
+/// The same after a whole number without a suffix.
+pub const COMPONENT_OF_INT: u8 = 16;
+
+/// An element of what is before it.
+pub const INDEX: u8 = 17;
+
+/// An operator after what is before it, and a right operand.
+pub const BINARY: u8 = 18;
+
+/// What is left out, or the end of a list.
+pub const NOTHING: u8 = 19;
+
+/// An expression before others.
+pub const NODES: u8 = 20;
+
+/// The last of some expressions, or an expression that may be left out.
+pub const NODE: u8 = 21;
+
+/// A part before others.
+pub const PARTS: u8 = 22;
+
+/// The last of some parts.
+pub const PART: u8 = 23;
+
+/// A type of `@type` before others.
+pub const TYPES: u8 = 24;
+
+/// A name before others.
+pub const NAMES: u8 = 25;
+
+/// An attribute before others.
+pub const ATTRIBUTES: u8 = 26;
+
+/// The last attribute before a line break.
+pub const ATTRIBUTES_LINE: u8 = 27;
+
+/// The last attribute before a space.
+pub const ATTRIBUTES_SPACE: u8 = 28;
+
+/// An attribute with an expression, by its name.
+pub const WITH_ARGUMENT: u8 = 29;
+
+/// An attribute that is a name.
+pub const WITHOUT_ARGUMENT: u8 = 30;
+
+/// A built-in value.
+pub const BUILTIN: u8 = 31;
+
+/// A severity and the name of a rule.
+pub const DIAGNOSTIC: u8 = 32;
+
+/// How a value is interpolated.
+pub const INTERPOLATE: u8 = 33;
+
+/// A word that may be left out, after another.
+pub const FURTHER_WORD: u8 = 34;
+
+/// The sizes of a workgroup.
+pub const WORKGROUP_SIZE: u8 = 35;
+
+/// An expression that may be left out, after another.
+pub const FURTHER_NODE: u8 = 36;
+
+/// A name and types.
+pub const TYPE_ATTRIBUTE: u8 = 37;
+
+/// A name, and the types that it may be.
+pub const TYPE_CONSTRAINT: u8 = 38;
+
+/// An attribute of another name.
+pub const CUSTOM: u8 = 39;
+
+/// Its arguments.
+pub const ARGUMENTS: u8 = 40;
+
+/// A `var` with its template.
+pub const VAR: u8 = 41;
+
+/// An address space, and an access mode.
+pub const VAR_TEMPLATE: u8 = 42;
+
+/// The declaration of a value, without its `;`.
+pub const DECLARATION: u8 = 43;
+
+/// Its type.
+pub const TYPED: u8 = 44;
+
+/// Its first value.
+pub const INITIALIZER: u8 = 45;
+
+/// An assignment, without its `;`, as further statements up to `const_assert`.
+pub const ASSIGNMENT: u8 = 46;
+
+/// An increment.
+pub const INCREMENT: u8 = 47;
+
+/// A decrement.
+pub const DECREMENT: u8 = 48;
+
+/// `break`.
+pub const BREAK: u8 = 49;
+
+/// `continue`.
+pub const CONTINUE: u8 = 50;
+
+/// `discard`.
+pub const DISCARD: u8 = 51;
+
+/// `return`.
+pub const RETURN: u8 = 52;
+
+/// The value that is returned.
+pub const RETURNED: u8 = 53;
+
+/// A call alone.
+pub const CALL_STATEMENT: u8 = 54;
+
+/// `const_assert`.
+pub const CONST_ASSERT: u8 = 55;
+
+/// `break if`.
+pub const BREAK_IF: u8 = 56;
+
+/// The selector `default`.
+pub const DEFAULT: u8 = 57;
+
+/// An empty statement or declaration by itself, of which attributes are printed.
+pub const VOID: u8 = 58;
+
+/// A statement or a declaration with the `;` that ends it.
+pub const ENDED: u8 = 59;
+
+/// The attributes of a block, and what is in it.
+pub const BLOCK: u8 = 60;
+
+/// An empty statement or declaration, before others.
+pub const VOID_ITEM: u8 = 61;
+
+/// A statement in a block, before others.
+pub const ITEM: u8 = 62;
+
+/// The end of a block that has a statement other than `;`, or of clauses.
+pub const BLOCK_END: u8 = 63;
+
+/// The end of another, or of no members.
+pub const EMPTY_END: u8 = 64;
+
+/// The end of the statements in a `loop` or `continuing`.
+pub const OPENED_END: u8 = 65;
+
+/// The same if there are none but `;`.
+pub const EMPTY_OPENED_END: u8 = 66;
+
+/// An `if` with what follows it.
+pub const IF: u8 = 67;
+
+/// Its first condition and block.
+pub const IF_CLAUSE: u8 = 68;
+
+/// An `else if`.
+pub const ELSE_IF: u8 = 69;
+
+/// An `else`.
+pub const ELSE: u8 = 70;
+
+/// What may be left out, on a line of its own.
+pub const LINE: u8 = 71;
+
+/// A part on a line of its own, before others.
+pub const LINES: u8 = 72;
+
+/// A `switch`.
+pub const SWITCH: u8 = 73;
+
+/// A clause of a `switch`.
+pub const SWITCH_CLAUSE: u8 = 74;
+
+/// A `loop`.
+pub const LOOP: u8 = 75;
+
+/// What may be left out, on an indented line of its own.
+pub const INDENTED_LINE: u8 = 76;
+
+/// What a loop does after each turn.
+pub const CONTINUING: u8 = 77;
+
+/// A `for`.
+pub const FOR: u8 = 78;
+
+/// A `while`.
+pub const WHILE: u8 = 79;
+
+/// A module.
+pub const UNIT: u8 = 80;
+
+/// A directive before others.
+pub const DIRECTIVES: u8 = 81;
+
+/// The last directive.
+pub const LAST_DIRECTIVE: u8 = 82;
+
+/// A severity and the name of a rule.
+pub const DIAGNOSTIC_DIRECTIVE: u8 = 83;
+
+/// The names of extensions.
+pub const ENABLE: u8 = 84;
+
+/// The names of extensions.
+pub const REQUIRES: u8 = 85;
+
+/// The first declaration that is not a `;`, before others.
+pub const FIRST_DECLARATION: u8 = 86;
+
+/// A further one, before others.
+pub const DECLARATIONS: u8 = 87;
+
+/// A further name for a type.
+pub const ALIAS: u8 = 88;
+
+/// A structure.
+pub const STRUCT: u8 = 89;
+
+/// A member before others.
+pub const MEMBERS: u8 = 90;
+
+/// The last member.
+pub const LAST_MEMBER: u8 = 91;
+
+/// A member or a parameter.
+pub const MEMBER: u8 = 92;
+
+/// A function.
+pub const FUNCTION: u8 = 93;
+
+/// What a function returns.
+pub const RESULT: u8 = 94;
