@@ -6,17 +6,17 @@ use Rattle.wgsl_model.specs.Trees.Statements as plain
 use Rattle.wgsl_model_packed.specs.Attributes.{packed_attribute_line}
 use Rattle.wgsl_model_packed.specs.Expressions.{packed_expression_node}
 use Rattle.wgsl_model_packed.specs.Printing.{packed_span}
-use Rattle.wgsl_model_packed.specs.Rules.{if_rule, item_rule, lines_rule, switch_rule, void_item_rule}
-use Rattle.wgsl_model_packed.specs.Statements.{end_of_clauses, packed_clauses, packed_else, packed_else_if_clause, packed_else_ifs, packed_if_clause, packed_statement, packed_switch_clause}
+use Rattle.wgsl_model_packed.specs.Rules.{if_clause_rule, if_rule, item_rule, lines_rule, switch_rule, void_item_rule, while_rule}
+use Rattle.wgsl_model_packed.specs.Statements.{end_of_clauses, packed_clauses, packed_compound, packed_else, packed_else_if_clause, packed_else_ifs, packed_if_clause, packed_statement, packed_switch_clause}
 use Rattle.wgsl_span.specs.View.{span_view}
 use Rattle.wgsl_tree_attribute.specs.View.{attributes_view}
 use Rattle.wgsl_tree_expression.specs.View.{expression_node_view}
 use Rattle.wgsl_tree_statement.specs.declared.statement.Statement.{Statement}
 use Rattle.wgsl_tree_statement.specs.declared.else_clause.ElseIfClause.{ElseIfClause}
 use Rattle.wgsl_tree_statement.specs.declared.switch.SwitchClause.{SwitchClause}
-use Rattle.wgsl_tree_statement.specs.declared.statement.Statement.TheViews.{out-CompoundStatement, out-IfStatement, out-SwitchStatement}
-use Rattle.wgsl_tree_statement.specs.View.{else_clause_view, else_if_clause_view, if_clause_view, statement_nodes_view, statement_view, switch_clause_view}
-use Rattle.wgsl_tree_statement.proofs.Views.{compound_statement_out, if_statement_out, switch_statement_out}
+use Rattle.wgsl_tree_statement.specs.declared.statement.Statement.TheViews.{out-CompoundStatement, out-IfClause, out-IfStatement, out-SwitchStatement, out-WhileStatement}
+use Rattle.wgsl_tree_statement.specs.View.{compound_statement_view, else_clause_view, else_if_clause_view, if_clause_view, statement_nodes_view, statement_view, switch_clause_view}
+use Rattle.wgsl_tree_statement.proofs.Views.{compound_statement_out, if_clause_out, if_statement_out, switch_statement_out, while_statement_out}
 use Rattle.wgsl_tree_packed.specs.Statements.{packed_block, packed_unended_of}
 use Rattle.wgsl_tree_packed.proofs.Lists.{all_written, step_written, two_parts}
 use Rattle.wgsl_tree_packed.proofs.Statements.{block_written, statement_end, statement_written, void_end, void_written}
@@ -51,14 +51,14 @@ pack_block-statements-preserved t c =
     let items = c.deref-item-items.result.now in
     let k = c.statements.item-index in
     let x = c.item-item.result in
-    let p = c.pack_placed-2.new.out.items in
+    let p = c.pack_placed-in-statements.new.out.items in
     let full : is_void (statement_view x.node.value) ≡ false = sym (c.is_void.ensures
     ∙ ap (λ (s : Statement). is_void (statement_view s)) c.node.ensures) ∙ c.if-is_void.false in (
       statement_written items k x o p c.pack_statement.new.out.items _ c.statements-test.true
           c.item-item.is full (c.in_ok-pack_placed-2.ensures
-          ∙ ap (λ s. o ++ (item_rule ∷ packed_span (span_view s))) c.span-2.ensures)
+          ∙ ap (λ s. o ++ (item_rule ∷ packed_span (span_view s))) c.span-in-statements.ensures)
           (c.in_ok-pack_statement.ensures
-          ∙ ap (λ s. p ++ packed_statement (statement_view s)) c.node-2.ensures)
+          ∙ ap (λ s. p ++ packed_statement (statement_view s)) c.node-in-statements.ensures)
           c.statements.invariant.0,
       statement_end c.args.some c.args.none c.statements.end items k x c.statements-test.true
           c.item-item.is full c.statements.invariant.1,
@@ -100,6 +100,7 @@ pack_if-returns t c =
     let p = c.pack_attributed.new.out.items in
     let q = c.pack_if_clause.new.out.items in
     let r = c.pack_rule-2.new.out.items in
+    let w = c.pack_else.new.out.items in
     let items = c.deref-item-items.result.now in
     let attributes = packed_attribute_line (attributes_view n.attributes.items) in
     let first = packed_if_clause (if_clause_view n.if_clause) in
@@ -110,11 +111,11 @@ pack_if-returns t c =
     c.else_if_clauses.invariant
     ∙ ap (λ xs. q ++ else_ifs_left xs) c.deref-item-items.ensures.value in
     on_ok_weaker c.pack_else.result (λ written.
-    two_parts o p _ (if_rule ∷ attributes) (first ++ (else_ifs_left n.else_if_clauses.items ++ last))
+    two_parts o p w (if_rule ∷ attributes) (first ++ (else_ifs_left n.else_if_clauses.items ++ last))
     c.in_ok-pack_attributed.ensures
-    (two_parts p q _ first (else_ifs_left n.else_if_clauses.items ++ last)
+    (two_parts p q w first (else_ifs_left n.else_if_clauses.items ++ last)
     c.in_ok-pack_if_clause.ensures
-    (two_parts q r _ (else_ifs_left n.else_if_clauses.items) last others written))
+    (two_parts q r w (else_ifs_left n.else_if_clauses.items) last others written))
     ∙ ap (λ v. o ++ packed_unended_of plain.if_statement v) (sym (if_statement_out c.args.node.now)))
     c.pack_else.ensures
 
@@ -144,9 +145,9 @@ pack_switch-returns t c =
     let body = packed_attribute_line (attributes_view n.body_attributes.items) in
     let clauses = clauses_left (end_at n.clauses.items) n.clauses.items in
     on_ok_weaker c.pack_rule-2.result (λ ended.
-    two_parts o p _ (switch_rule ∷ (head ++ subject)) (body ++ clauses)
+    two_parts o p c.pack_rule-2.new.out.items (switch_rule ∷ (head ++ subject)) (body ++ clauses)
     c.in_ok-pack_on_expression.ensures
-    (two_parts p q _ body clauses c.in_ok-pack_attribute_line.ensures
+    (two_parts p q c.pack_rule-2.new.out.items body clauses c.in_ok-pack_attribute_line.ensures
     (all_written (clauses_left (end_at items)) items c.clauses.item-index c.clauses.out.items
     c.pack_rule-2.new.out.items (q ++ clauses_left (end_at items) items) c.clauses-test.false
     (ended ∙ ap (λ e. c.clauses.out.items ++ (e ∷ [])) (c.end_of_clauses.ensures
@@ -155,3 +156,33 @@ pack_switch-returns t c =
     ∙ ap (λ t. o ++ (switch_rule ∷ t)) (append_assoc head subject (body ++ clauses))
     ∙ ap (λ v. o ++ packed_unended_of plain.switch_statement v)
     (sym (switch_statement_out c.args.node.now))) c.pack_rule-2.ensures
+
+pub pack_if_clause-returns : goal.pack_if_clause-returns
+pack_if_clause-returns t c =
+    let n = out-IfClause c.args.node.now in
+    let o = c.args.out.now.items in
+    let p = c.pack_rule.new.out.items in
+    let q = c.pack_expression_node.new.out.items in
+    let r = c.pack_compound.new.out.items in
+    let condition = packed_expression_node (expression_node_view n.expression) in
+    let body = packed_compound (compound_statement_view n.body) in
+    on_ok_weaker c.pack_compound.result (λ written.
+    two_parts o p r (if_clause_rule ∷ []) (condition ++ body) c.in_ok-pack_rule.ensures
+    (two_parts p q r condition body c.in_ok-pack_expression_node.ensures written)
+    ∙ ap (λ v. o ++ packed_if_clause v) (sym (if_clause_out c.args.node.now)))
+    c.pack_compound.ensures
+
+pub pack_while-returns : goal.pack_while-returns
+pack_while-returns t c =
+    let n = out-WhileStatement c.args.node.now in
+    let o = c.args.out.now.items in
+    let p = c.pack_on_expression.new.out.items in
+    let q = c.pack_compound.new.out.items in
+    let head = packed_attribute_line (attributes_view n.attributes.items) in
+    let condition = packed_expression_node (expression_node_view n.condition) in
+    let body = packed_compound (compound_statement_view n.body) in
+    on_ok_weaker c.pack_compound.result (λ written.
+    two_parts o p q (while_rule ∷ (head ++ condition)) body c.in_ok-pack_on_expression.ensures written
+    ∙ ap (λ t. o ++ (while_rule ∷ t)) (append_assoc head condition body)
+    ∙ ap (λ v. o ++ packed_unended_of plain.while_statement v)
+    (sym (while_statement_out c.args.node.now))) c.pack_compound.ensures

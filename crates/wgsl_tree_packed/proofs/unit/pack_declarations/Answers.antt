@@ -29,9 +29,9 @@ declarations-preserved c =
     ap (λ d. is_void (global_declaration_view d)) (sym c.node.ensures) ∙ sym c.is_void.ensures
     ∙ c.if-is_void.false in
     declaration_written c.declarations.rule c.deref-item-items.result.now c.declarations.item-index x
-    o c.pack_placed-2.new.out.items c.pack.new.out.items _ c.declarations-test.true c.item-item.is
+    o c.pack_placed-in-declarations.new.out.items c.pack.new.out.items _ c.declarations-test.true c.item-item.is
     full (c.in_ok-pack_placed-2.ensures
-    ∙ ap (λ s. o ++ (c.declarations.rule ∷ packed_span (span_view s))) c.span-2.ensures)
-    (c.in_ok-pack.ensures ∙ ap (λ d. c.pack_placed-2.new.out.items
-    ++ packed_global_declaration (global_declaration_view d)) c.node-2.ensures)
+    ∙ ap (λ s. o ++ (c.declarations.rule ∷ packed_span (span_view s))) c.span-in-declarations.ensures)
+    (c.in_ok-pack.ensures ∙ ap (λ d. c.pack_placed-in-declarations.new.out.items
+    ++ packed_global_declaration (global_declaration_view d)) c.node-in-declarations.ensures)
     c.declarations.invariant
