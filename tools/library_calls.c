@@ -470,6 +470,50 @@ static int check_print_arguments(void) {
     return 0;
 }
 
+static uint32_t pack(uint32_t kind, const char *text, uint8_t *form, size_t form_size) {
+    return wgsl_c_packed_tree(kind, (const uint8_t *)text, strlen(text), form, form_size, &answer);
+}
+
+static uint32_t print_packed(const uint8_t *form, size_t size, uint8_t *buffer,
+                             size_t buffer_size) {
+    return wgsl_c_print_packed(form, size, buffer, buffer_size, &answer);
+}
+
+/* A tree has the packed form that its definition gives it, which is printed as the tree is; other
+ * bytes are rejected. */
+static int check_packed(void) {
+    /* a chain, a name, a component with the span of what is before it, and the end */
+    static const uint8_t named[] = {
+        14, 12, 1, 0, 0, 0, 0, 0, 0, 0, 'a', 15, 0, 0, 0, 0, 0, 0, 0, 0, 1,
+        0,  0,  0, 0, 0, 0, 0, 1, 0, 0, 0,   0,  0, 0, 0, 'b', 19,
+    };
+    static const char module[] = "fn f(){if a{b=-c;}}";
+    static const char text[] = "fn f() {\n    if a {\n        b = -c;\n    }\n}\n";
+    uint8_t form[1024], buffer[64];
+    size_t size;
+    CHECK(pack(WGSL_EXPRESSION, "a.b", form, sizeof form) == WGSL_DONE && is_size(sizeof named));
+    CHECK(memcmp(form, named, sizeof named) == 0);
+    CHECK(pack(WGSL_EXPRESSION, "a.b", form, sizeof named - 1) == WGSL_TOO_SMALL);
+    CHECK(is_size(sizeof named));
+    CHECK(print_packed(named, sizeof named, buffer, 3) == WGSL_DONE && is_size(3));
+    CHECK(memcmp(buffer, "a.b", 3) == 0);
+    CHECK(print_packed(named, sizeof named, buffer, 2) == WGSL_TOO_SMALL && is_size(3));
+    for (size = 0; size < sizeof named; size++) {
+        CHECK(print_packed(named, size, buffer, sizeof buffer) == WGSL_REFUSED);
+        CHECK(is_answer(0, 0, 0, WGSL_NOT_A_FORM, 0));
+    }
+    CHECK(pack(WGSL_UNIT, module, form, sizeof form) == WGSL_DONE);
+    size = answer.size;
+    CHECK(print_packed(form, size, buffer, sizeof buffer) == WGSL_DONE);
+    CHECK(is_size(strlen(text)) && memcmp(buffer, text, strlen(text)) == 0);
+    CHECK(print_packed(form, size + 1, buffer, sizeof buffer) == WGSL_REFUSED);
+    CHECK(pack(WGSL_UNIT, "fn f(", form, sizeof form) == WGSL_REFUSED);
+    CHECK(answer.kind == WGSL_UNEXPECTED_END && answer.start == 5);
+    CHECK(pack(WGSL_ATTRIBUTE_NODE, "@a", form, sizeof form) == WGSL_UNKNOWN && is_size(0));
+    CHECK(pack(WGSL_UNIT, "\xff", form, sizeof form) == WGSL_NOT_UTF8);
+    return 0;
+}
+
 static int is_position(const char *text, size_t offset, size_t line, size_t column) {
     struct wgsl_position found = wgsl_position_of(text, strlen(text), offset);
     return found.line == line && found.column == column;
@@ -515,6 +559,7 @@ static int (*const checks[])(void) = {
     check_tokens,     check_comments,      check_lists,           check_trees,
     check_prints,     check_refused_forms, check_print_arguments, check_positions,
     check_names,      check_message,       check_minified,        check_minify_arguments,
+    check_packed,
 };
 
 int main(void) {

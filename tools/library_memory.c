@@ -52,12 +52,25 @@ struct said {
 };
 
 enum { FORMAT, TIDIED, CHECKED, SNIPPET, IN_FILE, RECOGNIZED, TOKENS, COMMENTS, LISTS, BEGINS };
-enum { NESTING = BEGINS + 1, MINIFIED, TREES };
+enum { NESTING = BEGINS + 1, MINIFIED, PACKED, PACKED_PRINT, TREES };
 enum { PRINTS = TREES + WGSL_EXPRESSION + 1, CALLS = PRINTS + WGSL_TYPE_CONSTRAINT + 1 };
+
+/* Writes the packed form of a module into memory of its own, without a refused request. */
+static uint32_t pack(const char *text, size_t size, uint8_t *form, size_t form_size,
+                     struct wgsl_answer *answer) {
+    size_t which = refused;
+    uint32_t status;
+    refused = SIZE_MAX;
+    status = wgsl_c_packed_tree(WGSL_UNIT, (const uint8_t *)text, size, form, form_size, answer);
+    requests = 0;
+    refused = which;
+    return status;
+}
 
 /* Makes a call; those from TREES on ask for the kinds of trees, one after another, and those from
    PRINTS on print the kinds of nodes. */
 static uint32_t make(int call, const char *text, size_t size, struct said *said) {
+    static uint8_t form[32768];
     char *buffer = (char *)said->buffer;
     size_t buffer_size = sizeof said->buffer;
     struct wgsl_token *tokens = (struct wgsl_token *)said->buffer;
@@ -89,6 +102,15 @@ static uint32_t make(int call, const char *text, size_t size, struct said *said)
     case MINIFIED:
         return wgsl_minify(WGSL_ALL_NAMES, "f\na", 3, text, size, buffer, buffer_size,
                            &said->answer);
+    case PACKED:
+        return wgsl_c_packed_tree(WGSL_UNIT, (const uint8_t *)text, size, (uint8_t *)buffer,
+                                  buffer_size, &said->answer);
+    case PACKED_PRINT:
+        if (pack(text, size, form, sizeof form, &said->answer) != WGSL_DONE) {
+            return WGSL_REFUSED;
+        }
+        return wgsl_c_print_packed(form, said->answer.size, (uint8_t *)buffer, buffer_size,
+                                   &said->answer);
     default:
         break;
     }
