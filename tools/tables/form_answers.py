@@ -17,7 +17,7 @@ PLACES = [("Rattle.std.proofs.Common", r"\b(ap|codes|refl|rules|sym|take)\b|(?<=
           ("Rattle.wgsl_writer.proofs.Joins", r"\b(before_next)\b"),
           (f"{CODES}.Code", r"\b(attributed_code|list)\b"),
           ("HERE.Lists", r"\b(all_read|one_more|shorter_still)\b"),
-          ("HERE.Rows", r"(?<=[ (])((?:first|next)(?:_apart|_with)?|held|last|node_ended|node_read|read_as)\b"),
+          ("HERE.Rows", r"(?<=[ (])((?:first|next)(?:_apart|_with)?|last|node_ended|node_read|read_as)\b"),
           ("HERE.StatementLists", r"\b(\w+_codes)\b"),
           ("HERE.Statements", r"\b(is_block|block_form|closed|list_joined|one_joined|shown|"
            r"variant_form)\b|(?<= )(▸)(?= )")]

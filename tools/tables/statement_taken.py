@@ -423,7 +423,7 @@ def uses_of(text):
         f"{MINE}.Lists": ["AreOf", "WasNext", "all_read", "all_taken", "comma_shorter", "first_left", "more_left", "no_comma",
                           "none_left", "none_yet", "one_more", "opened_shorter"],
         f"{MINE}.Numbers": ["node_next"], f"{MINE}.Passing": ["after", "told"],
-        f"{MINE}.Rows": ["first", "first_apart", "first_with", "held", "last", "next", "next_apart", "next_with",
+        f"{MINE}.Rows": ["first", "first_apart", "first_with", "last", "next", "next_apart", "next_with",
                          "node_ended", "node_read", "read_as"],
         f"{MINE}.StatementLists": ["statements_codes", "else_ifs_codes", "clauses_codes"],
         f"{MINE}.Statements": ["is_block"],

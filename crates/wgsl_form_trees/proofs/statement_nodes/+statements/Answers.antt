@@ -5,7 +5,7 @@ use Rattle.wgsl_tree_code.specs.Form.{form}
 use Rattle.wgsl_form_trees.proofs.Leaves.{null_taken}
 use Rattle.wgsl_form_trees.proofs.Lists.{all_read, all_taken, comma_shorter, first_left, more_left, no_comma, none_left, none_yet, one_more, opened_shorter}
 use Rattle.wgsl_form_trees.proofs.Passing.{after, told}
-use Rattle.wgsl_form_trees.proofs.Rows.{first, first_apart, first_with, held, last, next, next_apart, next_with, node_ended, node_read, read_as}
+use Rattle.wgsl_form_trees.proofs.Rows.{first, first_apart, first_with, last, next, next_apart, next_with, node_ended, node_read, read_as}
 use Rattle.wgsl_form_trees.proofs.StatementLists.{statements_codes, else_ifs_codes, clauses_codes}
 use Rattle.wgsl_form_trees.proofs.Statements.{is_block}
 use Rattle.wgsl_form_trees.proofs.StatementNames.{statement_plain}
