@@ -17,7 +17,7 @@ PLACES = [("Rattle.std.proofs.Common", r"\b(ap|codes|refl|rules|sym|take)\b|(?<=
           ("Rattle.wgsl_writer.proofs.Joins", r"\b(before_next)\b"),
           (f"{CODES}.Code", r"\b(attributed_code|list)\b"),
           ("HERE.Lists", r"\b(all_read|one_more|shorter_still)\b"),
-          ("HERE.Rows", r"(?<=[ (])(first|first_apart|held|last|next|next_apart|node_read|read_as)\b"),
+          ("HERE.Rows", r"(?<=[ (])((?:first|next)(?:_apart|_with)?|last|node_ended|node_read|read_as)\b"),
           ("HERE.StatementLists", r"\b(\w+_codes)\b"),
           ("HERE.Statements", r"\b(is_block|block_form|closed|list_joined|one_joined|shown|"
            r"variant_form)\b|(?<= )(▸)(?= )")]
@@ -46,18 +46,6 @@ def argument(term):
 def read(step):
     """What a call that returned a value ensures."""
     return f"c.in_ok-{step}.ensures"
-
-
-def struct_fields(kind, apart=()):
-    """That the fields of a struct are read; of those of some types the name and the value apart."""
-    parts, number = "", 0
-    for name, held in kind.parts:
-        lemma, facts = "next" if parts else "first", f"{read(name)}.read"
-        if held.rstrip("*?") in apart:
-            number += 1
-            lemma, facts = f"{lemma}_apart", f"{read(counted('expect', number))} {facts}"
-        parts += f"({lemma} {facts}\n    "
-    return f"{parts}(last {read(counted('expect', number + 1))}{')' * (len(kind.parts) + 1)}"
 
 
 def found_in(body, places=(*PLACES, *STATEMENTS)):

@@ -8,8 +8,7 @@ Run it at the top of the repository, and `rt fmt` in crates/wgsl_form_trees afte
 
 It reads crates/wgsl_model/nodes. What a statement holds that is not a statement has a `read_form`.
 """
-from form_answers import (HERE, answer, answers_text, argument, found_in, list_codes,
-                          read, struct_fields)
+from form_answers import HERE, answer, argument, found_in, list_codes, read
 from form_readers import CRATE, expect, held_arm, read_function, word_arm
 from form_taken import names_texts
 import statement_taken
@@ -21,6 +20,8 @@ from tree_forms import CODES, TREES
 
 MINE = HERE.format(CRATE.name)
 PROOFS = "proofs/statement_nodes"
+# the code of a statement
+CODE = "statement_code (statement_view node)"
 
 
 def reader(cycle, held):
@@ -57,23 +58,26 @@ def taken(type_, code):
 
 def struct_body(cycle, kind):
     """What reads a struct: each field after its name."""
-    body, before = "", "{"
-    for name, held in kind.parts:
-        text = f'{before}\\"{name}\\":'
-        if held.rstrip("*?") in cycle.names:
-            body += f"{expect(text)} let {name} = {reader(cycle, held)}(alloc, reader)?;"
+    body = ""
+    for name, held, is_nested, before, after in statement_taken.readings(cycle, kind):
+        if is_nested:
+            body += expect(before) if before else ""
+            body += f"let {name} = {reader(cycle, held)}(alloc, reader)?;"
+        elif after:
+            body += f'let {name} = read_between(alloc, reader, "{before}", "{after}")?;'
         else:
-            body += f'let {name} = read_field(alloc, reader, "{text}")?;'
-        before = ","
-    names = ", ".join(name for name, _ in kind.parts)
-    return f'{body} {expect("}")} Ok({kind.name} {{ {names} }})'
+            body += f'let {name} = read_field(alloc, reader, "{before}")?;'
+    made = f"{kind.name} {{ {', '.join(name for name, _ in kind.parts)} }}"
+    if statement_taken.is_ended(cycle, kind):
+        return f"{body} let node = {made}; end_node(reader, node)"
+    return f"{body} Ok({made})"
 
 
 def nested_arm(cycle, name, held):
     """What reads a variant that leads back to statements."""
     start = f'{{\\"{name}\\":'
     return (f'"{name}" => {{ {expect(start)} let inner = {reader(cycle, held)}(alloc, reader)?;'
-            f"{expect('}')} Ok({ROOT}::{name}(inner)) }}")
+            f"end_node(reader, {ROOT}::{name}(inner)) }}")
 
 
 def chosen(arms, otherwise):
@@ -105,20 +109,24 @@ def alone(cycle):
     return [kind for kind in cycle.kinds if not is_apart(kind)]
 
 
+def simple_function(cycle):
+    """The function that reads the statements that have no others in them."""
+    root = cycle.by_name[ROOT]
+    arms = [(held_arm if held else word_arm)(root, name, held) for name, held in parted(cycle)[1]]
+    error = 'Err(reader.error(FormErrorKind::Expected("a statement")))'
+    return ("/// Reads a statement that has no other statements in it.\n"
+            + function("pub fn read_simple_statement", ROOT, "node", CODE,
+                       "(value : plain.Statement) → IsSimple value → IsTakenWhereNext (statement_code value)",
+                       chosen(arms, error)))
+
+
 def functions(cycle):
-    """The functions."""
+    """The functions that read the others and their parts, and what has a `read_form`."""
     for kind in alone(cycle):
         yield read_function(kind.name, tree_forms.shown(kind, "plain"),
                             f"read_{snake(kind.name)}(alloc, reader)")
-    nested, simple = parted(cycle)
-    root, code = cycle.by_name[ROOT], "statement_code (statement_view node)"
-    arms = [(held_arm if held else word_arm)(root, name, held) for name, held in simple]
-    error = 'Err(reader.error(FormErrorKind::Expected("a statement")))'
-    yield function("fn read_simple_statement", ROOT, "node", code,
-                   "(value : plain.Statement) → IsSimple value → IsTakenWhereNext (statement_code value)",
-                   chosen(arms, error))
-    arms = [nested_arm(cycle, name, held) for name, held in nested]
-    yield in_cycle("read_statement", ROOT, "node", code, taken("plain.Statement", "statement_code"),
+    arms = [nested_arm(cycle, name, held) for name, held in parted(cycle)[0]]
+    yield in_cycle("read_statement", ROOT, "node", CODE, taken("plain.Statement", "statement_code"),
                    chosen(arms, "read_simple_statement(alloc, reader)"))
     yield in_cycle("read_statement_node", "StatementNode", "node",
                    "statement_node_code (statement_node_view node)",
@@ -141,8 +149,27 @@ def functions(cycle):
                        optional_body(reader(cycle, held[:-1])))
 
 
-def head(cycle, text):
-    """What is before the functions: what they and their clauses name."""
+def head(what, ghosts, uses):
+    """What is before functions: what they and their clauses name."""
+    return [f"//! Written by tools/tables/statement_readers.py from {TABLE}: {what}.", "",
+            *(f"ghost use {it};" for it in ghosts), "", *(f"use {it};" for it in uses), ""]
+
+
+def simple_source(cycle):
+    """The text of simple_statement.rt."""
+    ghosts = [f"{TREES}.Statements as plain", "Rattle.std.specs.Prelude.{IfOk}",
+              f"{CODES}.StatementNodes.{{statement_code}}", f"{VIEW}.{{statement_view}}",
+              "Rattle.wgsl_form_reader.specs.Reading.{IsRead}",
+              "Rattle.wgsl_form_trees.specs.Reading.{IsTakenWhereNext}",
+              "Rattle.wgsl_form_trees.specs.Simple.{IsSimple}"]
+    uses = ["crate::part::read_between", "std::alloc::Global",
+            "wgsl_form_reader::{FormError, FormErrorKind, Reader}", f"wgsl_tree_statement::{ROOT}"]
+    return "\n".join([*head("simple statements", ghosts, uses), simple_function(cycle)])
+
+
+def source(cycle):
+    """The text of statement_nodes.rt."""
+    text = "\n".join(functions(cycle))
     types = cycle.nodes()
     codes = [*types, *(OWN[held][0] for held in [*cycle.optional, *cycle.lists])]
     views = [*(f"{snake(it)}_view" for it in types), "statement_nodes_view"]
@@ -154,13 +181,12 @@ def head(cycle, text):
               f"{VIEW}.{{{listed(views)}}}",
               "Rattle.wgsl_form_reader.specs.Reading.{IsRead}",
               f"{TREES}.Attributed.{{Attributed}}",
-              "Rattle.wgsl_form_trees.specs.Reading.{IsTakenWhereNext}",
-              "Rattle.wgsl_form_trees.specs.Simple.{IsSimple}"]
-    uses = ["crate::part::{read_between, read_field}", "crate::text::read_place",
-            "crate::traits::FromForm", "std::alloc::Global", "wgsl_form_reader::{FormError, FormErrorKind, Reader}",
+              "Rattle.wgsl_form_trees.specs.Reading.{IsTakenWhereNext}"]
+    uses = ["crate::part::{end_node, read_between, read_field}",
+            "crate::simple_statement::read_simple_statement", "crate::text::read_place",
+            "crate::traits::FromForm", "std::alloc::Global", "wgsl_form_reader::{FormError, Reader}",
             "wgsl_span::Spanned", f"wgsl_tree_statement::{{{listed(types)}}}"]
-    return [f"//! Written by tools/tables/statement_readers.py from {TABLE}: statements.", "",
-            *(f"ghost use {it};" for it in ghosts), "", *(f"use {it};" for it in uses), ""]
+    return "\n".join([*head("statements", ghosts, uses), text])
 
 
 def wrote(what):
@@ -206,9 +232,11 @@ def struct_answer(cycle, kind):
     """The answer for a struct: what it is as plain data, and that its fields are read."""
     apart = len(kind.parts) if any(held in cycle.optional for _, held in kind.parts) else 1
     rolled = f"({snake(kind.name)}_roll{' _' * apart})"
-    return answer(f"read_{snake(kind.name)}-returns-clause-read", "t c",
-                  f"node_read (ap {argument(cycle.whole(kind.name))} {rolled})\n    "
-                  + struct_fields(kind, cycle.names))
+    fields = (f"node_read (ap {argument(cycle.whole(kind.name))} {rolled}) "
+              + statement_taken.struct_read(cycle, kind))
+    if statement_taken.is_ended(cycle, kind):
+        fields = f"node_ended c.end_node.result _ c.end_node.ensures.read (λ end. {fields})"
+    return answer(f"read_{snake(kind.name)}-returns-clause-read", "t c", fields)
 
 
 def made(name):
@@ -218,11 +246,12 @@ def made(name):
 
 def nested_answers(cycle):
     """The answers for the variants that lead back to statements."""
-    for name, _ in parted(cycle)[0]:
+    for at, (name, _) in enumerate(parted(cycle)[0]):
         facts = f"{read(f'expect-in-{name}')} {read(f'inner-in-{name}')}.read"
-        yield answer(f"read_statement-returns-in_ok-expect-in-{name}-2-clause-read", "t c",
-                     f"node_read {made(name)}\n    (first_apart {facts}\n"
-                     f"    (last {read(f'expect-in-{name}-2')}))")
+        end = statement_taken.end_step(name, at)
+        yield answer(f"read_statement-returns-in_ok-inner-in-{name}-clause-read", "t c",
+                     f"node_ended {end}.result _ {end}.ensures.read (λ end. node_read {made(name)} "
+                     f"(first_apart {facts} (last end)))")
 
 
 def simple_answers(table, cycle):
@@ -251,9 +280,9 @@ def main():
     root = cycle.by_name[ROOT]
     answers = [*nested_answers(cycle), *(struct_answer(cycle, it) for it in cycle.kinds[1:])]
     for kind in cycle.kinds[1:]:
-        answers += statement_taken.struct_answers(table, cycle, kind)
-    for name, _ in parted(cycle)[0]:
-        answers += statement_taken.nested_answers(table, root, name)
+        answers += statement_taken.struct_answers(cycle, kind)
+    for at, (name, _) in enumerate(parted(cycle)[0]):
+        answers += statement_taken.nested_answers(name, at)
     answers += statement_taken.default_answers(root, parted(cycle)[0])
     answers += statement_taken.node_answers()
     for held in cycle.optional:
@@ -265,16 +294,16 @@ def main():
             own, coded(cycle.node(held[:-1])))
     (CRATE / "proofs/StatementsNext.antt").write_text(
         wrote("statements where they are next") + statement_taken.lemmas_text(table, cycle))
-    text = "\n".join(functions(cycle))
-    texts = {"src/statement_nodes.rt": "\n".join([*head(cycle, text), text]),
+    texts = {"src/statement_nodes.rt": source(cycle),
+             "src/simple_statement.rt": simple_source(cycle),
              "specs/Simple.antt": wrote("statements with no others in them") + simple_text(cycle),
              "proofs/StatementLists.antt": wrote("the codes of lists") + list_codes(cycle),
              f"{PROOFS}/+statements/Invariants.antt": wrote("measures") + invariants_text(cycle)}
-    for place, proof in {"+statements": answers,
-                         "read_simple_statement": list(simple_answers(table, cycle))}.items():
+    for place, proof in {"statement_nodes/+statements": answers,
+                         "simple_statement/read_simple_statement": simple_answers(table, cycle)}.items():
         body = "\n".join(proof)
-        text = statement_taken.answers_text(f"statement_nodes/{place}", body, found_in(body))
-        texts[f"{PROOFS}/{place}/Answers.antt"] = wrote("a proof") + text
+        text = statement_taken.answers_text(place, body, found_in(body))
+        texts[f"proofs/{place}/Answers.antt"] = wrote("a proof") + text
     for file, text in texts.items():
         (CRATE / file).parent.mkdir(parents=True, exist_ok=True)
         (CRATE / file).write_text(text)

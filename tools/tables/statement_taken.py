@@ -2,7 +2,7 @@
 tools/tables/statement_readers.py."""
 from pathlib import Path
 
-from form_answers import HERE, answer, argument
+from form_answers import HERE, answer, argument, counted, read
 from form_taken import Enum, code_uses, told
 from node_table import TABLE, snake
 from plain_trees import CONSTRUCTED, OWN, RENAMED, coded, is_apart
@@ -11,6 +11,11 @@ from tree_terms import Codes, applied
 CRATE = Path("crates/wgsl_form_trees")
 MINE = HERE.format("wgsl_form_trees")
 NEXT = "λ value held more e."
+
+
+def passed_on(step, proof):
+    """What is said of an error that is passed on."""
+    return f"told _ _ _ c.{step}.ensures ({proof})"
 
 
 def plain(kind):
@@ -44,16 +49,69 @@ def field_type(table, held):
 
 def text(name, at):
     """What is before a field."""
-    return f'codes "{"," if at else "{"}\\"{name}\\":"'
+    return f'{"," if at else "{"}\\"{name}\\":'
 
 
-def struct_lemma(table, kind):
+def readings(cycle, kind):
+    """How the fields of a struct are read: the name of each, what it holds, whether that leads back
+    to statements, and the texts that are read with it before it and after it.
+
+    The text before what leads back to statements is read with the field before, where that does
+    not, and so is the end of the node, whose text is that after the last field otherwise."""
+    nested, before = [held.rstrip("*?") in cycle.names for _, held in kind.parts], True
+    for at, (name, held) in enumerate(kind.parts):
+        own = text(name, at) if before else ""
+        is_last = at + 1 == len(nested)
+        before = nested[at] or not is_last and not nested[at + 1]
+        after = "" if before else "}" if is_last else text(kind.parts[at + 1][0], at + 1)
+        yield name, held, nested[at], own, after
+
+
+def is_ended(cycle, kind):
+    """Whether the end of a struct is read after its fields, and not with the last one."""
+    return kind.parts[-1][1].rstrip("*?") in cycle.names
+
+
+def grouped(cycle, kind, terms):
+    """The form of a struct with what follows it, in the parts in which it is read."""
+    whole = 'codes "}" ++ more' if is_ended(cycle, kind) else "more"
+    for (_, _, is_nested, before, after), (front, term, then) in reversed(
+            list(zip(readings(cycle, kind), terms))):
+        if is_nested:
+            whole = f"{term} ++ ({whole})"
+            whole = f"{front} ++ ({whole})" if before else whole
+        else:
+            piece = f"{front} ++ ({term} ++ {then})" if after else f"{front} ++ {term}"
+            whole = f"({piece}) ++ ({whole})"
+    return whole.replace("(more)", "more")
+
+
+def shape(cycle, kind):
+    """Which texts are read with each field, which tells in what parts a form is read."""
+    return tuple((is_nested, bool(before), bool(after))
+                 for _, _, is_nested, before, after in readings(cycle, kind))
+
+
+def shapes(cycle):
+    """The parts in which forms are read: for each, the first struct that is read so."""
+    found = {}
+    for kind in cycle.kinds[1:]:
+        found.setdefault(shape(cycle, kind), kind)
+    return found
+
+
+def grouping(cycle, kind):
+    """The lemma that a form is next in the parts in which it is read."""
+    return f"{snake(shapes(cycle)[shape(cycle, kind)].name)}_parts"
+
+
+def struct_lemma(table, cycle, kind):
     """The lemma that the parts of a struct are next where its form is."""
     name, count = f"{snake(kind.name)}_next", len(kind.parts)
     parts = [(part(kind, it), field_code(table, kind, it, held), held) for it, held in kind.parts]
-    raw = 'codes "}" ++ more'
-    for at in range(count - 1, -1, -1):
-        raw = f"{text(kind.parts[at][0], at)} ++ (form {parts[at][1]} ++ ({raw}))"
+    fronts = [f'codes "{text(it, at)}"' for at, (it, _) in enumerate(kind.parts)] + ['codes "}"']
+    raw = grouped(cycle, kind, [(fronts[at], f"form {code}", fronts[at + 1])
+                                for at, (_, code, _) in enumerate(parts)])
     typed = " ".join(f"({it} : {field_type(table, held)})" for it, _, held in parts)
     held = "\n    → ".join(f"IsHeld {code}" for _, code, _ in parts)
     whole = coded(kind.name)
@@ -65,11 +123,11 @@ def struct_lemma(table, kind):
     code = f"{whole} attributes x" if is_apart(kind) else f"{whole} x"
     helds = " ".join(f"held{'.1.1' * at}.1.0" for at in range(count))
     values = " ".join(it for it, _, _ in parts)
-    texts = " ".join(f"({text(kind.parts[at][0], at)}) (form {parts[at][1]})" for at in range(count))
+    texts = " ".join(f"({fronts[at]}) (form {parts[at][1]})" for at in range(count))
     lemma = (f"{front} : {own}(x : plain.{kind.name}) → IsHeld ({code}) → (P : Type 0) (all more : List ℕ)\n"
              f"    → ({typed}\n    → {held}\n    → all ≡ {raw} → P)\n    → all ≡ form ({code}) ++ more → P\n"
              f"{name}{'-apart' if own else ''} {left} held P all more taken e =\n"
-             f"    taken {values} {helds}\n    (e ∙ text_{count} {texts} more)\n")
+             f"    taken {values} {helds}\n    (e ∙ {grouping(cycle, kind)} {texts} more)\n")
     if own:
         lemma += (f"\npub {name} : (x : {plain(kind)}) → IsHeld (attributed_code {whole} x) → (P : Type 0) (all more : List ℕ)\n"
                   f"    → ({typed}\n    → {held}\n    → all ≡ {raw} → P)\n    → all ≡ form (attributed_code {whole} x) ++ more → P\n"
@@ -77,39 +135,49 @@ def struct_lemma(table, kind):
     return lemma
 
 
-def steps(table, cycle, kind):
+def struct_read(cycle, kind):
+    """That the fields of a struct are read."""
+    parts, number, count = "", 0, 0
+    for name, _, is_nested, before, after in readings(cycle, kind):
+        lemma, facts = "next" if parts else "first", f"{read(name)}.read"
+        if is_nested:
+            number += bool(before)
+            fact = read(counted("expect", number)) if before else "refl"
+            lemma, facts = f"{lemma}_apart", f"{fact} {facts}"
+        elif after:
+            lemma += "_with _ _"
+        parts, count = f"{parts}({lemma} {facts} ", count + 1
+    return f"{parts}(last {'end' if is_ended(cycle, kind) else 'refl'}{')' * (count + 1)}"
+
+
+def steps(cycle, kind):
     """The exits of what reads a struct: the goal of each, whether an error is passed on, and its
     term, at what was read before it."""
     fact, number = "f", 0
-    for at, (name, held) in enumerate(kind.parts):
-        front, code = text(name, at), f"(form {field_code(table, kind, name, held)})"
-        if held.rstrip("*?") in cycle.names:
+    for at, (name, _, is_nested, before, _) in enumerate(readings(cycle, kind)):
+        if is_nested and before:
             number += 1
-            step = "expect" if number == 1 else f"expect-{number}"
+            step = counted("expect", number)
             yield f"in_err-{step}", None, f"c.in_err-{step}.ensures _ {fact}"
-            fact = f"(after ({front}) (sym c.in_ok-{step}.ensures ∙ {fact}))"
-        else:
-            fact = f"({fact} ∙ sym (append_assoc ({front}) {code} _))"
+            fact = f'(after (codes "{before}") (sym {read(step)} ∙ {fact}))'
         taken = f"ensures.taken {part(kind, name)} h{at} _ {fact}"
         yield f"in_err-{name}", name, f"c.in_err-{name}.{taken}"
         fact = f"(c.in_ok-{name}.{taken})"
-    step = "expect" if number == 0 else f"expect-{number + 1}"
-    yield f"in_err-{step}", None, f"c.in_err-{step}.ensures _ {fact}"
-    yield "", None, f'after (codes "}}") (sym c.in_ok-{step}.ensures ∙ {fact})'
+    yield "", None, f"c.end_node.ensures.taken _ {fact}" if is_ended(cycle, kind) else fact[1:-1]
 
 
-def struct_answers(table, cycle, kind):
+def struct_answers(cycle, kind):
     """The answers for a struct."""
     name = f"read_{snake(kind.name)}"
     values = " ".join(part(kind, it) for it, _ in kind.parts)
     helds = " ".join(f"h{at}" for at, _ in enumerate(kind.parts))
     is_first = True
-    for goal, passed, term in steps(table, cycle, kind):
-        call = f"{snake(kind.name)}_next value held _ _ more\n    (λ {values} {helds} f. {term}) e"
+    for goal, passed, term in steps(cycle, kind):
+        call = f"{snake(kind.name)}_next value held _ _ more (λ {values} {helds} f. {term}) e"
         full = f"{name}-returns{'-' if goal else ''}{goal}-clause-taken"
         if passed:
             residual = "from_residual" if is_first else f"from_residual-{goal}"
-            yield answer(full, "t c", f"{NEXT} {told(residual)}\n    ({call})")
+            yield answer(full, "t c", f"{NEXT} {passed_on(residual, call)}")
         elif goal:
             yield answer(full, "t c", f"{NEXT} absurd ({call})")
         else:
@@ -117,62 +185,76 @@ def struct_answers(table, cycle, kind):
         is_first = False
 
 
-def nested_answers(table, kind, name):
-    """The answers for a variant that leads back to statements."""
+def nested_lemma(table, kind, name):
+    """The lemma that what a statement holds that leads back to statements is next where its form
+    is, by the name that is next."""
     enum = Enum(table, kind)
     code, lemma = enum.made(name)[2], f"{enum.name}_at_{snake(name)}"
-    front = (f"held_next {enum.code()} {enum.name}_plain (codes \"{name}\") {code} {lemma} refl "
-             f"c.next_name.ensures c.in-{name}.is")
-    inner = argument(applied(code, "y"))
-    mid = (f'(after (codes "{{\\"{name}\\":") (sym c.in_ok-expect-in-{name}.ensures ∙ f)'
-           f' ∙ append_assoc (form {inner}) (codes "}}") m)')
-    read = f"c.HERE-inner-in-{name}.ensures.taken y h _ {mid}"
+    inner = applied(code, "y")
+    return (f"pub {snake(name)}_inside : {{all next : List ℕ}}\n"
+            f"    → ((c : Code) → HasPlainName c → (more : List ℕ) → all ≡ form c ++ more → next ≡ name_of c)\n"
+            f'    → next ≡ codes "{name}" → (x : plain.Statement) → IsHeld (statement_code x)'
+            f" → (P : Type 0) (more : List ℕ)\n"
+            f"    → ((y : {enum.held_type(name)}) → IsHeld ({inner})\n"
+            f'    → all ≡ codes "{{\\"{name}\\":" ++ (form ({inner}) ++ (codes "}}" ++ more)) → P)\n'
+            f"    → all ≡ form (statement_code x) ++ more → P\n"
+            f"{snake(name)}_inside = inside_next statement_code statement_plain "
+            f'(codes "{name}") {code} {lemma} refl\n')
+
+
+def end_step(name, at):
+    """The step that reads the end of a variant: that of the first one has no more in its name."""
+    return f"c.end_node-in-{name}" if at else "c.end_node"
+
+
+def nested_answers(name, at):
+    """The answers for a variant that leads back to statements."""
+    front = f"{snake(name)}_inside c.next_name.ensures c.in-{name}.is value held _ more"
+    mid = f'(after (codes "{{\\"{name}\\":") (sym {read(f"expect-in-{name}")} ∙ f))'
+    inner = f"c.HERE-inner-in-{name}.ensures.taken y h _ {mid}"
     exits = [(f"in_err-expect-in-{name}", "absurd ({})", f"c.in_err-expect-in-{name}.ensures _ f"),
-             (f"in_err-inner-in-{name}", f"{told(f'from_residual-in_err-inner-in-{name}')}\n    ({{}})",
-              read.replace("HERE", "in_err")),
-             (f"in_err-expect-in-{name}-2", "absurd ({})",
-              f"c.in_err-expect-in-{name}-2.ensures _ ({read.replace('HERE', 'in_ok')})"),
-             (f"in_ok-expect-in-{name}-2", "{}",
-              f'after (codes "}}") (sym c.in_ok-expect-in-{name}-2.ensures ∙ {read.replace("HERE", "in_ok")})')]
+             (f"in_err-inner-in-{name}", passed_on(f"from_residual-in_err-inner-in-{name}", "{}"),
+              inner.replace("HERE", "in_err")),
+             (f"in_ok-inner-in-{name}", "{}",
+              f"{end_step(name, at)}.ensures.taken _ ({inner.replace('HERE', 'in_ok')})")]
     for goal, outer, term in exits:
-        call = f"{front} _\n    (λ y limit h m f. {term}) value held more e"
         yield answer(f"read_statement-returns-{goal}-clause-taken", "t c",
-                     f"{NEXT} {outer.replace('{}', call)}")
+                     f"{NEXT} {outer.replace('{}', f'{front} (λ y h f. {term}) e')}")
 
 
 def optional_answers(name, code, held):
     """The answers for a part that may be left out: its form is not `null` where it is there."""
     item = name.replace("optional_", "")
-    call = f"{code.removesuffix('_code')}_next value held _ _ more (c.if-eat.ensures.refused refl)\n    (λ y h f. {{}}) e"
+    call = f"{code.removesuffix('_code')}_next value held _ _ more (c.if-eat.ensures.refused refl) (λ y h f. {{}}) e"
     yield answer(f"{name}-returns-then-eat-clause-taken", "t c",
                  f"{NEXT} null_taken ({code} value) _ more (sym (c.if-eat.ensures.eaten refl) ∙ e)")
     taken = f"c.in_{{}}-{item}.ensures.taken y h _ (c.if-eat.ensures.kept refl ∙ f)"
     yield answer(f"{name}-returns-in_err-{item}-clause-taken", "t c",
-                 f"{NEXT} {told('from_residual')}\n    ({call.format(taken.format('err'))})")
+                 f"{NEXT} {passed_on('from_residual', call.format(taken.format('err')))}")
     yield answer(f"{name}-returns-clause-taken", "t c",
                  f"{NEXT} {call.format(taken.format('ok'))}")
 
 
 def list_answers(name, item, code, lemma, own, codes):
     """The answers for a list."""
-    was = f"(record {{ items = {own} value; are_of = {lemma}_of value; held = held; next = e }})"
-    left = f"let left = c.nodes.invariant.left more {was} in\n    "
+    was = f"({lemma.removesuffix('_are')}_next value held e)"
+    left = f"let left = c.nodes.invariant.left more {was} in "
     taken = "ensures.taken left.first left.held _ left.next"
     read = code[len("(λ node. "):-1].replace(" node)", f" c.in_ok-{item}.field-0)")
     yield answer(f"{name}-returns-then-eat-clause-taken", "t c",
-                 f"{NEXT} none_left {codes} _ _ _ more c.in_ok-expect.ensures (c.if-eat.ensures.eaten refl)\n    {was}")
+                 f"{NEXT} none_left {codes} _ _ _ more c.in_ok-expect.ensures (c.if-eat.ensures.eaten refl) {was}")
     yield answer(f"{name}-nodes-init", "t c",
                  f"record {{\n  opened = none_yet {code} _ c.new-nodes.ensures.items c.in_ok-expect.ensures (c.if-eat.ensures.kept refl);\n"
                  f"  left = λ more. first_left {codes} _ _ _ more c.in_ok-expect.ensures\n"
                  "      (c.if-eat.ensures.refused refl) (c.if-eat.ensures.kept refl);\n"
                  "  shorter = opened_shorter _ c.in_ok-expect.ensures (c.if-eat.ensures.kept refl);\n}")
     yield answer(f"{name}-returns-in_err-{item}-clause-taken", "t c",
-                 f"{NEXT} {left}{told(f'from_residual-in_err-{item}')}\n    (c.in_err-{item}.{taken})")
+                 f"{NEXT} {left}{passed_on(f'from_residual-in_err-{item}', f'c.in_err-{item}.{taken}')}")
     yield answer(f"{name}-returns-then-eat-2-clause-read", "t c",
                  f"read_as _ (ap list ({own}s _))\n    (all_read {code} _ _ _ _ c.in_ok-push.ensures.items\n"
                  f"    c.nodes.invariant.opened c.in_ok-{item}.ensures.read (c.if-eat-2.ensures.eaten refl))")
     yield answer(f"{name}-returns-then-eat-2-clause-taken", "t c",
-                 f"{NEXT} {left}all_taken {codes} left.others _ _ more (c.if-eat-2.ensures.eaten refl)\n    (c.in_ok-{item}.{taken})")
+                 f"{NEXT} {left}all_taken {codes} left.others _ _ more (c.if-eat-2.ensures.eaten refl) (c.in_ok-{item}.{taken})")
     yield answer(f"{name}-nodes-preserved", "t c",
                  f"record {{\n  opened = one_more {code} _ _ _ _ c.in_ok-push.ensures.items c.nodes.invariant.opened\n"
                  f"      c.in_ok-{item}.ensures.read (sym (c.if-eat-2.ensures.kept refl) ∙ c.in_ok-expect-2.ensures);\n"
@@ -183,9 +265,9 @@ def list_answers(name, item, code, lemma, own, codes):
                  f"  shorter = comma_shorter (form ({read})) _ c.in_ok-{item}.ensures.read\n"
                  "      (c.if-eat-2.ensures.kept refl) c.in_ok-expect-2.ensures c.nodes.invariant.shorter;\n}")
     yield answer(f"{name}-returns-in_err-expect-2-clause-taken", "t c",
-                 f"{NEXT} {left}absurd (no_comma {codes} left.others _ _ more\n"
-                 "    (c.if-eat-2.ensures.refused refl) (c.if-eat-2.ensures.kept refl) c.in_err-expect-2.ensures\n"
-                 f"    (c.in_ok-{item}.{taken}))")
+                 f"{NEXT} {left}absurd (no_comma {codes} left.others _ _ more"
+                 " (c.if-eat-2.ensures.refused refl) (c.if-eat-2.ensures.kept refl) c.in_err-expect-2.ensures"
+                 f" (c.in_ok-{item}.{taken}))")
 
 
 def default_answers(kind, nested):
@@ -208,11 +290,11 @@ def node_answers():
     """The answers for a statement with its span."""
     name, first = "read_statement_node", "c.in_{}-span.ensures.taken s k _ f"
     node = f"c.in_{{}}-node.ensures.taken n h _ ({first.format('ok')})"
-    call = Call("statement_place value held _ _ more\n    (λ n s k h f. {}) e")
+    call = Call("statement_place value held _ _ more (λ n s k h f. {}) e")
     yield answer(f"{name}-returns-in_err-span-clause-taken", "t c",
-                 f"{NEXT} {told('from_residual')} ({call.format(first.format('err'))})")
+                 f"{NEXT} {passed_on('from_residual', call.format(first.format('err')))}")
     yield answer(f"{name}-returns-in_err-node-clause-taken", "t c",
-                 f"{NEXT} {told('from_residual-in_err-node')} ({call.format(node.format('err'))})")
+                 f"{NEXT} {passed_on('from_residual-in_err-node', call.format(node.format('err')))}")
     yield answer(f"{name}-returns-in_err-expect-clause-taken", "t c",
                  f"{NEXT} absurd ({call.format('c.in_err-expect.ensures _ (' + node.format('ok') + ')')})")
     yield answer(f"{name}-returns-clause-taken", "t c",
@@ -248,16 +330,18 @@ def simple_answers(table, kind, parts):
                  f"    (c.next_name.ensures ({code} value) ({plain_name} value) more e))")
 
 
-def text_lemmas():
-    """The lemmas on texts in other groups."""
-    for count in range(2, 6):
-        names = [(f"s{at}", f"c{at}") for at in range(count)]
-        whole, raw = 'codes "}"', '(codes "}" ++ more)'
-        for start, code in reversed(names):
-            whole, raw = f"({start} ++ ({code} ++ {whole}))", f"({start} ++ ({code} ++ {raw}))"
-        args = " ".join(f"{start} {code}" for start, code in names)
-        yield (f"text_{count} : ({args} more : List ℕ) → {whole} ++ more\n    ≡ {raw}\n"
-               f"text_{count} {args} more = simp append_assoc\n")
+def text_lemmas(cycle):
+    """The lemmas on texts in the parts in which they are read."""
+    for kind in shapes(cycle).values():
+        name, count = grouping(cycle, kind), len(kind.parts)
+        whole, args = 'codes "}"', " ".join(f"s{at} c{at}" for at in range(count))
+        for at in reversed(range(count)):
+            whole = f"s{at} ++ (c{at} ++ ({whole}))"
+        whole = whole.replace('(codes "}")', 'codes "}"')
+        fronts = [*(f"s{at}" for at in range(count)), 'codes "}"']
+        raw = grouped(cycle, kind, [(fronts[at], f"c{at}", fronts[at + 1]) for at in range(count)])
+        yield (f"{name} : ({args} more : List ℕ) → ({whole}) ++ more\n    ≡ {raw}\n"
+               f"{name} {args} more = simp append_assoc\n")
 
 
 def variant_lemmas(table, cycle):
@@ -299,10 +383,13 @@ def own_lemmas(cycle):
     for held in cycle.lists:
         type_, none, one = OWN[held]
         name, item = coded(type_), coded(cycle.node(held[:-1]))
-        lemma = name.replace("_code", "_are_of")
-        yield (f"pub {lemma} : (xs : plain.{type_}) → AreOf {item} ({name} xs)\n"
+        lemma, own = name.replace("_code", "_are_of"), name.replace("_code", "_next")
+        yield (f"{lemma} : (xs : plain.{type_}) → AreOf {item} ({name} xs)\n"
                f"{lemma} plain.{none} = tt\n"
                f"{lemma} (plain.{one} x xs) = ((x, refl), {lemma} xs)\n")
+        yield (f"pub {own} : {{all more : List ℕ}} (xs : plain.{type_}) → IsHeld (list ({name} xs))\n"
+               f"    → all ≡ form (list ({name} xs)) ++ more → WasNext {item} all more\n"
+               f"{own} xs held e =\n    record {{ items = {name} xs; are_of = {lemma} xs; held = held; next = e }}\n")
     for held in cycle.optional:
         type_, none, one = OWN[held]
         name, item = coded(type_), coded(cycle.node(held[:-1]))
@@ -325,18 +412,19 @@ def uses_of(text):
         "Rattle.wgsl_model.specs.Trees.Attributed": ["Attributed"],
         "Rattle.wgsl_model.specs.Trees.Attributes": ["Attributes"],
         "Rattle.wgsl_model.specs.Trees.Expressions": ["ExpressionNode"],
-        "Rattle.wgsl_tree_code.specs.Code": ["attributed_code", "list", "optional", "list_of", "text"],
+        "Rattle.wgsl_tree_code.specs.Code": ["Code", "attributed_code", "list", "optional", "list_of", "text"],
         "Rattle.wgsl_tree_code.specs.Form": ["form"],
-        "Rattle.wgsl_form_reader.specs.Texts": ["name_of"],
+        "Rattle.wgsl_form_reader.specs.Texts": ["HasPlainName", "name_of"],
         "Rattle.wgsl_form_trees.specs.Held": ["IsHeld", "IsSpan"],
         "Rattle.wgsl_form_trees.specs.Openings": ["place"],
         "Rattle.wgsl_form_trees.specs.Simple": ["IsSimple"],
-        f"{MINE}.Arms": ["held_next", "word_next"],
+        f"{MINE}.Arms": ["held_next", "inside_next", "word_next"],
         f"{MINE}.Leaves": ["null_taken"],
-        f"{MINE}.Lists": ["AreOf", "all_read", "all_taken", "comma_shorter", "first_left", "more_left", "no_comma",
+        f"{MINE}.Lists": ["AreOf", "WasNext", "all_read", "all_taken", "comma_shorter", "first_left", "more_left", "no_comma",
                           "none_left", "none_yet", "one_more", "opened_shorter"],
         f"{MINE}.Numbers": ["node_next"], f"{MINE}.Passing": ["after", "told"],
-        f"{MINE}.Rows": ["first", "first_apart", "held", "last", "next", "next_apart", "node_read", "read_as"],
+        f"{MINE}.Rows": ["first", "first_apart", "first_with", "last", "next", "next_apart", "next_with",
+                         "node_ended", "node_read", "read_as"],
         f"{MINE}.StatementLists": ["statements_codes", "else_ifs_codes", "clauses_codes"],
         f"{MINE}.Statements": ["is_block"],
     }
@@ -357,7 +445,9 @@ def uses_of(text):
 
 def lemmas_text(table, cycle):
     """The text of the lemmas."""
-    body = "\n".join([*text_lemmas(), *(struct_lemma(table, it) for it in cycle.kinds[1:]),
+    body = "\n".join([*text_lemmas(cycle), *(struct_lemma(table, cycle, it) for it in cycle.kinds[1:]),
+                      *(nested_lemma(table, cycle.by_name["Statement"], name) for name, held
+                        in cycle.by_name["Statement"].parts if held in cycle.names),
                       *own_lemmas(cycle), *variant_lemmas(table, cycle), PLACE])
     body = body.replace("plain_statements.", "plain.")
     uses = [*(it for it in uses_of(body) if ".Rows." not in it), "Rattle.wgsl_model.specs.Trees.Statements as plain",

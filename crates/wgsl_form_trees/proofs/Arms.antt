@@ -1,8 +1,8 @@
 -- A variant that is next, by its name.
-use Rattle.std.proofs.Common.{ℕ, ◌≡◌, refl, sym, ap, subst, ◌∙◌, Bool, true, false, true≢false, List, [], ◌∷◌, ◌++◌}
+use Rattle.std.proofs.Common.{ℕ, ◌≡◌, refl, sym, ap, subst, ◌∙◌, Bool, true, false, true≢false, List, [], ◌∷◌, ◌++◌, append_assoc, codes}
 use Rattle.std.specs.Prelude.{bytes_eq, ◌&&◌}
 use Rattle.wgsl_tree_code.specs.Code.{Code, text, variant}
-use Rattle.wgsl_tree_code.specs.Form.{form}
+use Rattle.wgsl_tree_code.specs.Form.{form, quoted}
 use Rattle.wgsl_form_reader.specs.Texts.{is_plain, AllPlain, HasPlainName, name_of}
 use Rattle.wgsl_form_trees.specs.Held.{IsHeld, IsHeldAs}
 
@@ -46,3 +46,24 @@ held_next code plain name inner at same found is P taken x held more e =
     let made = at x (named _ (name_of (code x)) name (found (code x) (plain x) more e) same is) in
     let parts = subst IsHeld made.1 held in
     taken made.0 parts.0 parts.1.0 more (e ∙ ap (λ c. form c ++ more) made.1)
+
+inside : (name value more : List ℕ)
+    → (codes "{" ++ ((quoted name ++ codes ":") ++ value ++ codes "}")) ++ more
+    ≡ (codes "{" ++ (quoted name ++ codes ":")) ++ (value ++ (codes "}" ++ more))
+inside name value more = simp append_assoc
+
+-- the same of what it holds before the end of the variant
+pub inside_next : {X Y : Type 0} (code : X → Code) (plain : (x : X) → HasPlainName (code x))
+    (name : List ℕ) (inner : Y → Code)
+    (at : (x : X) → bytes_eq (name_of (code x)) name ≡ true → (y : Y) × (code x ≡ variant name (inner y)))
+    → bytes_eq name name ≡ true → {all next : List ℕ}
+    → ((c : Code) → HasPlainName c → (more : List ℕ) → all ≡ form c ++ more → next ≡ name_of c)
+    → next ≡ name → (x : X) → IsHeld (code x) → (P : Type 0) (more : List ℕ)
+    → ((y : Y) → IsHeld (inner y)
+    → all ≡ (codes "{" ++ (quoted name ++ codes ":")) ++ (form (inner y) ++ (codes "}" ++ more)) → P)
+    → all ≡ form (code x) ++ more → P
+inside_next {Y = Y} code plain name inner at same {all = all} found is x held P more taken e =
+    held_next code plain name inner at same found is
+    (λ m. ((y : Y) → IsHeld (inner y)
+    → all ≡ (codes "{" ++ (quoted name ++ codes ":")) ++ (form (inner y) ++ (codes "}" ++ m)) → P) → P)
+    (λ y limit h m f k. k y h (f ∙ inside name (form (inner y)) m)) x held more e taken

@@ -1,7 +1,9 @@
 -- Nodes that are read field by field.
-use Rattle.std.proofs.Common.{ℕ, ◌≡◌, refl, sym, ap, ◌∙◌, List, ◌++◌, append_assoc, codes}
+use Rattle.std.proofs.Common.{ℕ, ◌≡◌, refl, sym, ap, subst, ◌∙◌, List, ◌++◌, append_assoc, codes, Result, Ok, Err, IfOk}
 use Rattle.wgsl_tree_code.specs.Code.{Code, node, Fields, no_fields, field}
 use Rattle.wgsl_tree_code.specs.Form.{form, quoted, fields_form, further_fields}
+use Rattle.wgsl_form_reader.specs.declared.error.FormError.{FormError}
+use Rattle.wgsl_form_trees.proofs.Passing.{around_text}
 
 -- the fields of a node were read, and the fields after others
 pub record AreRead (fs : Fields) (before after : List ℕ) : Type 0 where
@@ -54,6 +56,19 @@ pub next_apart : {name : List ℕ} {value : Code} {fs : Fields} {before inside b
 next_apart {name = name} e f more =
     next (e ∙ ap (λ u. (codes "," ++ (quoted name ++ codes ":")) ++ u) f) more
 
+-- the same of a field that is read with the text that follows it
+pub first_with : {name : List ℕ} {value : Code} {fs : Fields} {before after : List ℕ}
+    (text between : List ℕ) → before ≡ ((codes "{" ++ (quoted name ++ codes ":")) ++ (form value ++ text)) ++ between →
+    MoreRead fs (text ++ between) after → AreRead (field name value fs) before after
+first_with {name = name} {value = value} text between e more =
+    first (e ∙ around_text (codes "{" ++ (quoted name ++ codes ":")) (form value) text between) more
+
+pub next_with : {name : List ℕ} {value : Code} {fs : Fields} {before after : List ℕ}
+    (text between : List ℕ) → before ≡ ((codes "," ++ (quoted name ++ codes ":")) ++ (form value ++ text)) ++ between →
+    MoreRead fs (text ++ between) after → MoreRead (field name value fs) before after
+next_with {name = name} {value = value} text between e more =
+    next (e ∙ around_text (codes "," ++ (quoted name ++ codes ":")) (form value) text between) more
+
 pub last : {before after : List ℕ} → before ≡ codes "}" ++ after → MoreRead no_fields before after
 last e = record { read = e }
 
@@ -62,6 +77,12 @@ pub held : {name : List ℕ} {value : Code} {before after : List ℕ} →
     before ≡ (codes "{" ++ (quoted name ++ codes ":")) ++ (form value ++ (codes "}" ++ after)) →
     AreRead (field name value no_fields) before after
 held e = first e (last refl)
+
+-- a node whose end was read after its fields
+pub node_ended : {A : Type 0} {node : A} {text now : List ℕ} (result : Result A FormError) (P : A → Type 0)
+    → IfOk result (λ value. (value ≡ node) × (text ≡ now)) → (text ≡ now → P node) → IfOk result P
+node_ended (Ok value) P read made = subst P (sym read.0) (made read.1)
+node_ended (Err error) P read made = tt
 
 -- a node by its fields
 pub node_read : {c : Code} {fs : Fields} {before after : List ℕ} → c ≡ node fs →

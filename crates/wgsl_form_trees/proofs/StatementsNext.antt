@@ -5,48 +5,66 @@ use Rattle.grammar.specs.Tokens.{Span}
 use Rattle.wgsl_model.specs.Trees.Attributed.{Attributed}
 use Rattle.wgsl_model.specs.Trees.Attributes.{Attributes}
 use Rattle.wgsl_model.specs.Trees.Expressions.{ExpressionNode}
-use Rattle.wgsl_tree_code.specs.Code.{attributed_code, list, optional, list_of}
+use Rattle.wgsl_tree_code.specs.Code.{Code, attributed_code, list, optional, list_of}
 use Rattle.wgsl_tree_code.specs.Form.{form}
-use Rattle.wgsl_form_reader.specs.Texts.{name_of}
+use Rattle.wgsl_form_reader.specs.Texts.{HasPlainName, name_of}
 use Rattle.wgsl_form_trees.specs.Held.{IsHeld, IsSpan}
 use Rattle.wgsl_form_trees.specs.Openings.{place}
 use Rattle.wgsl_form_trees.specs.Simple.{IsSimple}
-use Rattle.wgsl_form_trees.proofs.Lists.{AreOf}
+use Rattle.wgsl_form_trees.proofs.Arms.{inside_next}
+use Rattle.wgsl_form_trees.proofs.Lists.{AreOf, WasNext}
 use Rattle.wgsl_form_trees.proofs.Numbers.{node_next}
+use Rattle.wgsl_form_trees.proofs.StatementNames.{statement_plain, statement_at_compound, statement_at_if, statement_at_switch, statement_at_loop, statement_at_for, statement_at_while}
 use Rattle.wgsl_model.specs.Trees.Statements as plain
 use Rattle.wgsl_tree_code.specs.ExpressionNodes.{expression_node_code}
 use Rattle.wgsl_tree_code.specs.AttributeNodes.{attributes_code}
 use Rattle.wgsl_tree_code.specs.StatementNodes.{break_if_code, clauses_code, compound_code, continuing_code, else_clause_code, else_code, else_if_clause_code, else_ifs_code, for_code, if_clause_code, if_code, loop_code, maybe_continuing_code, part_code, selector_code, statement_code, statement_node_code, statements_code, switch_clause_code, switch_code, while_code}
 
-text_2 : (s0 c0 s1 c1 more : List ℕ) → (s0 ++ (c0 ++ (s1 ++ (c1 ++ codes "}")))) ++ more
-    ≡ (s0 ++ (c0 ++ (s1 ++ (c1 ++ (codes "}" ++ more)))))
-text_2 s0 c0 s1 c1 more = simp append_assoc
+compound_statement_parts : (s0 c0 s1 c1 more : List ℕ) → (s0 ++ (c0 ++ (s1 ++ (c1 ++ codes "}")))) ++ more
+    ≡ (s0 ++ (c0 ++ s1)) ++ (c1 ++ (codes "}" ++ more))
+compound_statement_parts s0 c0 s1 c1 more = simp append_assoc
 
-text_3 : (s0 c0 s1 c1 s2 c2 more : List ℕ) → (s0 ++ (c0 ++ (s1 ++ (c1 ++ (s2 ++ (c2 ++ codes "}")))))) ++ more
-    ≡ (s0 ++ (c0 ++ (s1 ++ (c1 ++ (s2 ++ (c2 ++ (codes "}" ++ more)))))))
-text_3 s0 c0 s1 c1 s2 c2 more = simp append_assoc
-
-text_4 : (s0 c0 s1 c1 s2 c2 s3 c3 more : List ℕ)
+if_statement_parts : (s0 c0 s1 c1 s2 c2 s3 c3 more : List ℕ)
     → (s0 ++ (c0 ++ (s1 ++ (c1 ++ (s2 ++ (c2 ++ (s3 ++ (c3 ++ codes "}")))))))) ++ more
-    ≡ (s0 ++ (c0 ++ (s1 ++ (c1 ++ (s2 ++ (c2 ++ (s3 ++ (c3 ++ (codes "}" ++ more)))))))))
-text_4 s0 c0 s1 c1 s2 c2 s3 c3 more = simp append_assoc
+    ≡ (s0 ++ (c0 ++ s1)) ++ (c1 ++ (s2 ++ (c2 ++ (s3 ++ (c3 ++ (codes "}" ++ more))))))
+if_statement_parts s0 c0 s1 c1 s2 c2 s3 c3 more = simp append_assoc
 
-text_5 : (s0 c0 s1 c1 s2 c2 s3 c3 s4 c4 more : List ℕ)
+else_if_clause_parts : (s0 c0 s1 c1 s2 c2 more : List ℕ)
+    → (s0 ++ (c0 ++ (s1 ++ (c1 ++ (s2 ++ (c2 ++ codes "}")))))) ++ more
+    ≡ (s0 ++ c0) ++ ((s1 ++ (c1 ++ s2)) ++ (c2 ++ (codes "}" ++ more)))
+else_if_clause_parts s0 c0 s1 c1 s2 c2 more = simp append_assoc
+
+switch_statement_parts : (s0 c0 s1 c1 s2 c2 s3 c3 more : List ℕ)
+    → (s0 ++ (c0 ++ (s1 ++ (c1 ++ (s2 ++ (c2 ++ (s3 ++ (c3 ++ codes "}")))))))) ++ more
+    ≡ (s0 ++ c0) ++ ((s1 ++ c1) ++ ((s2 ++ (c2 ++ s3)) ++ (c3 ++ (codes "}" ++ more))))
+switch_statement_parts s0 c0 s1 c1 s2 c2 s3 c3 more = simp append_assoc
+
+loop_statement_parts : (s0 c0 s1 c1 s2 c2 more : List ℕ)
+    → (s0 ++ (c0 ++ (s1 ++ (c1 ++ (s2 ++ (c2 ++ codes "}")))))) ++ more
+    ≡ (s0 ++ (c0 ++ s1)) ++ (c1 ++ (s2 ++ (c2 ++ (codes "}" ++ more))))
+loop_statement_parts s0 c0 s1 c1 s2 c2 more = simp append_assoc
+
+for_statement_parts : (s0 c0 s1 c1 s2 c2 s3 c3 s4 c4 more : List ℕ)
     → (s0 ++ (c0 ++ (s1 ++ (c1 ++ (s2 ++ (c2 ++ (s3 ++ (c3 ++ (s4 ++ (c4 ++ codes "}")))))))))) ++ more
-    ≡ (s0 ++ (c0 ++ (s1 ++ (c1 ++ (s2 ++ (c2 ++ (s3 ++ (c3 ++ (s4 ++ (c4 ++ (codes "}" ++ more)))))))))))
-text_5 s0 c0 s1 c1 s2 c2 s3 c3 s4 c4 more = simp append_assoc
+    ≡ (s0 ++ (c0 ++ s1)) ++ (c1 ++ ((s2 ++ (c2 ++ s3)) ++ (c3 ++ (s4 ++ (c4 ++ (codes "}" ++ more))))))
+for_statement_parts s0 c0 s1 c1 s2 c2 s3 c3 s4 c4 more = simp append_assoc
+
+continuing_statement_parts : (s0 c0 s1 c1 s2 c2 more : List ℕ)
+    → (s0 ++ (c0 ++ (s1 ++ (c1 ++ (s2 ++ (c2 ++ codes "}")))))) ++ more
+    ≡ (s0 ++ (c0 ++ s1)) ++ (c1 ++ ((s2 ++ (c2 ++ codes "}")) ++ more))
+continuing_statement_parts s0 c0 s1 c1 s2 c2 more = simp append_assoc
 
 pub compound_statement_next : (x : plain.CompoundStatement) → IsHeld (compound_code x)
     → (P : Type 0) (all more : List ℕ)
     → ((attributes : Attributes) (statements : plain.StatementNodes)
     → IsHeld (attributes_code attributes)
     → IsHeld (list (statements_code statements))
-    → all ≡ codes "{\"attributes\":" ++ (form (attributes_code attributes) ++ (codes ",\"statements\":"
-    ++ (form (list (statements_code statements)) ++ (codes "}" ++ more)))) → P)
+    → all ≡ (codes "{\"attributes\":" ++ (form (attributes_code attributes) ++ codes ",\"statements\":"))
+    ++ (form (list (statements_code statements)) ++ (codes "}" ++ more)) → P)
     → all ≡ form (compound_code x) ++ more → P
 compound_statement_next (plain.compound_statement attributes statements) held P all more taken e =
     taken attributes statements held.1.0 held.1.1.1.0
-    (e ∙ text_2 (codes "{\"attributes\":") (form (attributes_code attributes))
+    (e ∙ compound_statement_parts (codes "{\"attributes\":") (form (attributes_code attributes))
     (codes ",\"statements\":") (form (list (statements_code statements))) more)
 
 if_statement_next-apart : (attributes : Attributes) (x : plain.IfStatement)
@@ -57,14 +75,14 @@ if_statement_next-apart : (attributes : Attributes) (x : plain.IfStatement)
     → IsHeld (if_clause_code first_clause)
     → IsHeld (list (else_ifs_code else_if_clauses))
     → IsHeld (else_code else_clause)
-    → all ≡ codes "{\"attributes\":" ++ (form (attributes_code attributes) ++ (codes ",\"if_clause\":" ++ (form
-    (if_clause_code first_clause) ++ (codes ",\"else_if_clauses\":" ++ (form (list (else_ifs_code else_if_clauses))
-    ++ (codes ",\"else_clause\":" ++ (form (else_code else_clause) ++ (codes "}" ++ more)))))))) → P)
+    → all ≡ (codes "{\"attributes\":" ++ (form (attributes_code attributes) ++ codes ",\"if_clause\":"))
+    ++ (form (if_clause_code first_clause) ++ (codes ",\"else_if_clauses\":" ++ (form (list (else_ifs_code
+    else_if_clauses)) ++ (codes ",\"else_clause\":" ++ (form (else_code else_clause) ++ (codes "}" ++ more)))))) → P)
     → all ≡ form (if_code attributes x) ++ more → P
 if_statement_next-apart attributes (plain.if_else first_clause else_if_clauses else_clause) held P all more taken e =
     taken attributes first_clause else_if_clauses else_clause held.1.0 held.1.1.1.0 held.1.1.1.1.1.0
     held.1.1.1.1.1.1.1.0
-    (e ∙ text_4 (codes "{\"attributes\":") (form (attributes_code attributes))
+    (e ∙ if_statement_parts (codes "{\"attributes\":") (form (attributes_code attributes))
     (codes ",\"if_clause\":") (form (if_clause_code first_clause)) (codes ",\"else_if_clauses\":")
     (form (list (else_ifs_code else_if_clauses))) (codes ",\"else_clause\":") (form (else_code else_clause)) more)
 
@@ -76,9 +94,9 @@ pub if_statement_next : (x : Attributed plain.IfStatement) → IsHeld (attribute
     → IsHeld (if_clause_code first_clause)
     → IsHeld (list (else_ifs_code else_if_clauses))
     → IsHeld (else_code else_clause)
-    → all ≡ codes "{\"attributes\":" ++ (form (attributes_code attributes) ++ (codes ",\"if_clause\":" ++ (form
-    (if_clause_code first_clause) ++ (codes ",\"else_if_clauses\":" ++ (form (list (else_ifs_code else_if_clauses))
-    ++ (codes ",\"else_clause\":" ++ (form (else_code else_clause) ++ (codes "}" ++ more)))))))) → P)
+    → all ≡ (codes "{\"attributes\":" ++ (form (attributes_code attributes) ++ codes ",\"if_clause\":"))
+    ++ (form (if_clause_code first_clause) ++ (codes ",\"else_if_clauses\":" ++ (form (list (else_ifs_code
+    else_if_clauses)) ++ (codes ",\"else_clause\":" ++ (form (else_code else_clause) ++ (codes "}" ++ more)))))) → P)
     → all ≡ form (attributed_code if_code x) ++ more → P
 if_statement_next x = if_statement_next-apart x.attributes x.node
 
@@ -86,13 +104,13 @@ pub if_clause_next : (x : plain.IfClause) → IsHeld (if_clause_code x) → (P :
     → ((expression : ExpressionNode) (body : plain.CompoundStatement)
     → IsHeld (expression_node_code expression)
     → IsHeld (compound_code body)
-    → all ≡ codes "{\"expression\":" ++ (form (expression_node_code expression)
-    ++ (codes ",\"body\":" ++ (form (compound_code body) ++ (codes "}" ++ more)))) → P)
+    → all ≡ (codes "{\"expression\":" ++ (form (expression_node_code expression) ++ codes ",\"body\":"))
+    ++ (form (compound_code body) ++ (codes "}" ++ more)) → P)
     → all ≡ form (if_clause_code x) ++ more → P
 if_clause_next (plain.if_clause expression body) held P all more taken e =
     taken expression body held.1.0 held.1.1.1.0
-    (e ∙ text_2 (codes "{\"expression\":") (form (expression_node_code expression))
-    (codes ",\"body\":") (form (compound_code body)) more)
+    (e ∙ compound_statement_parts (codes "{\"expression\":")
+    (form (expression_node_code expression)) (codes ",\"body\":") (form (compound_code body)) more)
 
 pub else_if_clause_next : (x : plain.ElseIfClause) → IsHeld (else_if_clause_code x)
     → (P : Type 0) (all more : List ℕ)
@@ -100,13 +118,13 @@ pub else_if_clause_next : (x : plain.ElseIfClause) → IsHeld (else_if_clause_co
     → IsHeld (attributes_code attributes)
     → IsHeld (expression_node_code expression)
     → IsHeld (compound_code body)
-    → all ≡ codes "{\"attributes\":" ++ (form (attributes_code attributes)
-    ++ (codes ",\"expression\":" ++ (form (expression_node_code expression)
-    ++ (codes ",\"body\":" ++ (form (compound_code body) ++ (codes "}" ++ more)))))) → P)
+    → all ≡ (codes "{\"attributes\":" ++ form (attributes_code attributes))
+    ++ ((codes ",\"expression\":" ++ (form (expression_node_code expression) ++ codes ",\"body\":"))
+    ++ (form (compound_code body) ++ (codes "}" ++ more))) → P)
     → all ≡ form (else_if_clause_code x) ++ more → P
 else_if_clause_next (plain.else_if_clause attributes expression body) held P all more taken e =
     taken attributes expression body held.1.0 held.1.1.1.0 held.1.1.1.1.1.0
-    (e ∙ text_3 (codes "{\"attributes\":") (form (attributes_code attributes)) (codes ",\"expression\":")
+    (e ∙ else_if_clause_parts (codes "{\"attributes\":") (form (attributes_code attributes)) (codes ",\"expression\":")
     (form (expression_node_code expression)) (codes ",\"body\":") (form (compound_code body)) more)
 
 pub else_clause_next : (x : plain.ElseClause) → IsHeld (else_clause_code x)
@@ -114,13 +132,13 @@ pub else_clause_next : (x : plain.ElseClause) → IsHeld (else_clause_code x)
     → ((attributes : Attributes) (body : plain.CompoundStatement)
     → IsHeld (attributes_code attributes)
     → IsHeld (compound_code body)
-    → all ≡ codes "{\"attributes\":" ++ (form (attributes_code attributes)
-    ++ (codes ",\"body\":" ++ (form (compound_code body) ++ (codes "}" ++ more)))) → P)
+    → all ≡ (codes "{\"attributes\":" ++ (form (attributes_code attributes) ++ codes ",\"body\":"))
+    ++ (form (compound_code body) ++ (codes "}" ++ more)) → P)
     → all ≡ form (else_clause_code x) ++ more → P
 else_clause_next (plain.else_clause attributes body) held P all more taken e =
     taken attributes body held.1.0 held.1.1.1.0
-    (e ∙ text_2 (codes "{\"attributes\":") (form (attributes_code attributes)) (codes ",\"body\":")
-    (form (compound_code body)) more)
+    (e ∙ compound_statement_parts (codes "{\"attributes\":") (form (attributes_code attributes))
+    (codes ",\"body\":") (form (compound_code body)) more)
 
 switch_statement_next-apart : (attributes : Attributes) (x : plain.SwitchStatement)
     → IsHeld (switch_code attributes x) → (P : Type 0) (all more : List ℕ)
@@ -130,14 +148,15 @@ switch_statement_next-apart : (attributes : Attributes) (x : plain.SwitchStateme
     → IsHeld (expression_node_code expression)
     → IsHeld (attributes_code body_attributes)
     → IsHeld (list (clauses_code clauses))
-    → all ≡ codes "{\"attributes\":" ++ (form (attributes_code attributes) ++ (codes ",\"expression\":"
-    ++ (form (expression_node_code expression) ++ (codes ",\"body_attributes\":" ++ (form (attributes_code
-    body_attributes) ++ (codes ",\"clauses\":" ++ (form (list (clauses_code clauses)) ++ (codes "}" ++ more)))))))) → P)
+    → all ≡ (codes "{\"attributes\":" ++ form (attributes_code attributes))
+    ++ ((codes ",\"expression\":" ++ form (expression_node_code expression))
+    ++ ((codes ",\"body_attributes\":" ++ (form (attributes_code body_attributes)
+    ++ codes ",\"clauses\":")) ++ (form (list (clauses_code clauses)) ++ (codes "}" ++ more)))) → P)
     → all ≡ form (switch_code attributes x) ++ more → P
 switch_statement_next-apart attributes (plain.switch expression body_attributes clauses) held P all more taken e =
     taken attributes expression body_attributes clauses held.1.0 held.1.1.1.0 held.1.1.1.1.1.0
     held.1.1.1.1.1.1.1.0
-    (e ∙ text_4 (codes "{\"attributes\":") (form (attributes_code attributes))
+    (e ∙ switch_statement_parts (codes "{\"attributes\":") (form (attributes_code attributes))
     (codes ",\"expression\":") (form (expression_node_code expression)) (codes ",\"body_attributes\":")
     (form (attributes_code body_attributes)) (codes ",\"clauses\":") (form (list (clauses_code clauses))) more)
 
@@ -149,9 +168,10 @@ pub switch_statement_next : (x : Attributed plain.SwitchStatement)
     → IsHeld (expression_node_code expression)
     → IsHeld (attributes_code body_attributes)
     → IsHeld (list (clauses_code clauses))
-    → all ≡ codes "{\"attributes\":" ++ (form (attributes_code attributes) ++ (codes ",\"expression\":"
-    ++ (form (expression_node_code expression) ++ (codes ",\"body_attributes\":" ++ (form (attributes_code
-    body_attributes) ++ (codes ",\"clauses\":" ++ (form (list (clauses_code clauses)) ++ (codes "}" ++ more)))))))) → P)
+    → all ≡ (codes "{\"attributes\":" ++ form (attributes_code attributes))
+    ++ ((codes ",\"expression\":" ++ form (expression_node_code expression))
+    ++ ((codes ",\"body_attributes\":" ++ (form (attributes_code body_attributes)
+    ++ codes ",\"clauses\":")) ++ (form (list (clauses_code clauses)) ++ (codes "}" ++ more)))) → P)
     → all ≡ form (attributed_code switch_code x) ++ more → P
 switch_statement_next x = switch_statement_next-apart x.attributes x.node
 
@@ -161,14 +181,15 @@ pub switch_clause_next : (x : plain.SwitchClause) → IsHeld (switch_clause_code
     → IsHeld (attributes_code attributes)
     → IsHeld (list_of selector_code case_selectors)
     → IsHeld (compound_code body)
-    → all ≡ codes "{\"attributes\":" ++ (form (attributes_code attributes)
-    ++ (codes ",\"case_selectors\":" ++ (form (list_of selector_code case_selectors)
-    ++ (codes ",\"body\":" ++ (form (compound_code body) ++ (codes "}" ++ more)))))) → P)
+    → all ≡ (codes "{\"attributes\":" ++ form (attributes_code attributes))
+    ++ ((codes ",\"case_selectors\":" ++ (form (list_of selector_code case_selectors)
+    ++ codes ",\"body\":")) ++ (form (compound_code body) ++ (codes "}" ++ more))) → P)
     → all ≡ form (switch_clause_code x) ++ more → P
 switch_clause_next (plain.switch_clause attributes case_selectors body) held P all more taken e =
     taken attributes case_selectors body held.1.0 held.1.1.1.0 held.1.1.1.1.1.0
-    (e ∙ text_3 (codes "{\"attributes\":") (form (attributes_code attributes)) (codes ",\"case_selectors\":")
-    (form (list_of selector_code case_selectors)) (codes ",\"body\":") (form (compound_code body)) more)
+    (e ∙ else_if_clause_parts (codes "{\"attributes\":") (form (attributes_code attributes))
+    (codes ",\"case_selectors\":") (form (list_of selector_code case_selectors))
+    (codes ",\"body\":") (form (compound_code body)) more)
 
 loop_statement_next-apart : (attributes : Attributes) (x : plain.LoopStatement)
     → IsHeld (loop_code attributes x) → (P : Type 0) (all more : List ℕ)
@@ -176,13 +197,13 @@ loop_statement_next-apart : (attributes : Attributes) (x : plain.LoopStatement)
     → IsHeld (attributes_code attributes)
     → IsHeld (compound_code body)
     → IsHeld (maybe_continuing_code continuing)
-    → all ≡ codes "{\"attributes\":"
-    ++ (form (attributes_code attributes) ++ (codes ",\"body\":" ++ (form (compound_code body)
-    ++ (codes ",\"continuing\":" ++ (form (maybe_continuing_code continuing) ++ (codes "}" ++ more)))))) → P)
+    → all ≡ (codes "{\"attributes\":" ++ (form (attributes_code attributes) ++ codes ",\"body\":"))
+    ++ (form (compound_code body) ++ (codes ",\"continuing\":"
+    ++ (form (maybe_continuing_code continuing) ++ (codes "}" ++ more)))) → P)
     → all ≡ form (loop_code attributes x) ++ more → P
 loop_statement_next-apart attributes (plain.repeat body continuing) held P all more taken e =
     taken attributes body continuing held.1.0 held.1.1.1.0 held.1.1.1.1.1.0
-    (e ∙ text_3 (codes "{\"attributes\":") (form (attributes_code attributes)) (codes ",\"body\":")
+    (e ∙ loop_statement_parts (codes "{\"attributes\":") (form (attributes_code attributes)) (codes ",\"body\":")
     (form (compound_code body)) (codes ",\"continuing\":") (form (maybe_continuing_code continuing)) more)
 
 pub loop_statement_next : (x : Attributed plain.LoopStatement)
@@ -191,9 +212,9 @@ pub loop_statement_next : (x : Attributed plain.LoopStatement)
     → IsHeld (attributes_code attributes)
     → IsHeld (compound_code body)
     → IsHeld (maybe_continuing_code continuing)
-    → all ≡ codes "{\"attributes\":"
-    ++ (form (attributes_code attributes) ++ (codes ",\"body\":" ++ (form (compound_code body)
-    ++ (codes ",\"continuing\":" ++ (form (maybe_continuing_code continuing) ++ (codes "}" ++ more)))))) → P)
+    → all ≡ (codes "{\"attributes\":" ++ (form (attributes_code attributes) ++ codes ",\"body\":"))
+    ++ (form (compound_code body) ++ (codes ",\"continuing\":"
+    ++ (form (maybe_continuing_code continuing) ++ (codes "}" ++ more)))) → P)
     → all ≡ form (attributed_code loop_code x) ++ more → P
 loop_statement_next x = loop_statement_next-apart x.attributes x.node
 
@@ -206,17 +227,18 @@ for_statement_next-apart : (attributes : Attributes) (x : plain.ForStatement)
     → IsHeld (optional expression_node_code condition)
     → IsHeld (part_code update)
     → IsHeld (compound_code body)
-    → all ≡ codes "{\"attributes\":" ++ (form (attributes_code attributes)
-    ++ (codes ",\"initializer\":" ++ (form (part_code initializer) ++ (codes ",\"condition\":"
-    ++ (form (optional expression_node_code condition) ++ (codes ",\"update\":" ++ (form (part_code update)
-    ++ (codes ",\"body\":" ++ (form (compound_code body) ++ (codes "}" ++ more)))))))))) → P)
+    → all ≡ (codes "{\"attributes\":" ++ (form (attributes_code attributes) ++ codes ",\"initializer\":"))
+    ++ (form (part_code initializer) ++ ((codes ",\"condition\":"
+    ++ (form (optional expression_node_code condition) ++ codes ",\"update\":")) ++ (form (part_code update)
+    ++ (codes ",\"body\":" ++ (form (compound_code body) ++ (codes "}" ++ more)))))) → P)
     → all ≡ form (for_code attributes x) ++ more → P
 for_statement_next-apart attributes (plain.repeat_for initializer condition update body) held P all more taken e =
     taken attributes initializer condition update body held.1.0 held.1.1.1.0 held.1.1.1.1.1.0
     held.1.1.1.1.1.1.1.0 held.1.1.1.1.1.1.1.1.1.0
-    (e ∙ text_5 (codes "{\"attributes\":") (form (attributes_code attributes)) (codes ",\"initializer\":")
-    (form (part_code initializer)) (codes ",\"condition\":") (form (optional expression_node_code condition))
-    (codes ",\"update\":") (form (part_code update)) (codes ",\"body\":") (form (compound_code body)) more)
+    (e ∙ for_statement_parts (codes "{\"attributes\":") (form (attributes_code attributes))
+    (codes ",\"initializer\":") (form (part_code initializer)) (codes ",\"condition\":")
+    (form (optional expression_node_code condition)) (codes ",\"update\":")
+    (form (part_code update)) (codes ",\"body\":") (form (compound_code body)) more)
 
 pub for_statement_next : (x : Attributed plain.ForStatement) → IsHeld (attributed_code for_code x)
     → (P : Type 0) (all more : List ℕ)
@@ -227,10 +249,10 @@ pub for_statement_next : (x : Attributed plain.ForStatement) → IsHeld (attribu
     → IsHeld (optional expression_node_code condition)
     → IsHeld (part_code update)
     → IsHeld (compound_code body)
-    → all ≡ codes "{\"attributes\":" ++ (form (attributes_code attributes)
-    ++ (codes ",\"initializer\":" ++ (form (part_code initializer) ++ (codes ",\"condition\":"
-    ++ (form (optional expression_node_code condition) ++ (codes ",\"update\":" ++ (form (part_code update)
-    ++ (codes ",\"body\":" ++ (form (compound_code body) ++ (codes "}" ++ more)))))))))) → P)
+    → all ≡ (codes "{\"attributes\":" ++ (form (attributes_code attributes) ++ codes ",\"initializer\":"))
+    ++ (form (part_code initializer) ++ ((codes ",\"condition\":"
+    ++ (form (optional expression_node_code condition) ++ codes ",\"update\":")) ++ (form (part_code update)
+    ++ (codes ",\"body\":" ++ (form (compound_code body) ++ (codes "}" ++ more)))))) → P)
     → all ≡ form (attributed_code for_code x) ++ more → P
 for_statement_next x = for_statement_next-apart x.attributes x.node
 
@@ -240,13 +262,13 @@ while_statement_next-apart : (attributes : Attributes) (x : plain.WhileStatement
     → IsHeld (attributes_code attributes)
     → IsHeld (expression_node_code condition)
     → IsHeld (compound_code body)
-    → all ≡ codes "{\"attributes\":" ++ (form (attributes_code attributes)
-    ++ (codes ",\"condition\":" ++ (form (expression_node_code condition)
-    ++ (codes ",\"body\":" ++ (form (compound_code body) ++ (codes "}" ++ more)))))) → P)
+    → all ≡ (codes "{\"attributes\":" ++ form (attributes_code attributes))
+    ++ ((codes ",\"condition\":" ++ (form (expression_node_code condition) ++ codes ",\"body\":"))
+    ++ (form (compound_code body) ++ (codes "}" ++ more))) → P)
     → all ≡ form (while_code attributes x) ++ more → P
 while_statement_next-apart attributes (plain.repeat_while condition body) held P all more taken e =
     taken attributes condition body held.1.0 held.1.1.1.0 held.1.1.1.1.1.0
-    (e ∙ text_3 (codes "{\"attributes\":") (form (attributes_code attributes)) (codes ",\"condition\":")
+    (e ∙ else_if_clause_parts (codes "{\"attributes\":") (form (attributes_code attributes)) (codes ",\"condition\":")
     (form (expression_node_code condition)) (codes ",\"body\":") (form (compound_code body)) more)
 
 pub while_statement_next : (x : Attributed plain.WhileStatement)
@@ -255,9 +277,9 @@ pub while_statement_next : (x : Attributed plain.WhileStatement)
     → IsHeld (attributes_code attributes)
     → IsHeld (expression_node_code condition)
     → IsHeld (compound_code body)
-    → all ≡ codes "{\"attributes\":" ++ (form (attributes_code attributes)
-    ++ (codes ",\"condition\":" ++ (form (expression_node_code condition)
-    ++ (codes ",\"body\":" ++ (form (compound_code body) ++ (codes "}" ++ more)))))) → P)
+    → all ≡ (codes "{\"attributes\":" ++ form (attributes_code attributes))
+    ++ ((codes ",\"condition\":" ++ (form (expression_node_code condition) ++ codes ",\"body\":"))
+    ++ (form (compound_code body) ++ (codes "}" ++ more))) → P)
     → all ≡ form (attributed_code while_code x) ++ more → P
 while_statement_next x = while_statement_next-apart x.attributes x.node
 
@@ -268,27 +290,93 @@ pub continuing_statement_next : (x : plain.ContinuingStatement) → IsHeld (cont
     → IsHeld (attributes_code attributes)
     → IsHeld (compound_code body)
     → IsHeld (optional (attributed_code break_if_code) break_if)
-    → all ≡ codes "{\"attributes\":" ++ (form (attributes_code attributes)
-    ++ (codes ",\"body\":" ++ (form (compound_code body) ++ (codes ",\"break_if\":"
-    ++ (form (optional (attributed_code break_if_code) break_if) ++ (codes "}" ++ more)))))) → P)
+    → all ≡ (codes "{\"attributes\":" ++ (form (attributes_code attributes) ++ codes ",\"body\":"))
+    ++ (form (compound_code body) ++ ((codes ",\"break_if\":"
+    ++ (form (optional (attributed_code break_if_code) break_if) ++ codes "}")) ++ more)) → P)
     → all ≡ form (continuing_code x) ++ more → P
 continuing_statement_next (plain.continuing attributes body break_if) held P all more taken e =
     taken attributes body break_if held.1.0 held.1.1.1.0 held.1.1.1.1.1.0
-    (e ∙ text_3 (codes "{\"attributes\":") (form (attributes_code attributes)) (codes ",\"body\":")
-    (form (compound_code body)) (codes ",\"break_if\":")
+    (e ∙ continuing_statement_parts (codes "{\"attributes\":") (form (attributes_code attributes))
+    (codes ",\"body\":") (form (compound_code body)) (codes ",\"break_if\":")
     (form (optional (attributed_code break_if_code) break_if)) more)
 
-pub statements_are_of : (xs : plain.StatementNodes) → AreOf statement_node_code (statements_code xs)
+pub compound_inside : {all next : List ℕ}
+    → ((c : Code) → HasPlainName c → (more : List ℕ) → all ≡ form c ++ more → next ≡ name_of c)
+    → next ≡ codes "Compound" → (x : plain.Statement) → IsHeld (statement_code x) → (P : Type 0) (more : List ℕ)
+    → ((y : plain.CompoundStatement) → IsHeld (compound_code y)
+    → all ≡ codes "{\"Compound\":" ++ (form (compound_code y) ++ (codes "}" ++ more)) → P)
+    → all ≡ form (statement_code x) ++ more → P
+compound_inside = inside_next statement_code statement_plain (codes "Compound") compound_code statement_at_compound refl
+
+pub if_inside : {all next : List ℕ}
+    → ((c : Code) → HasPlainName c → (more : List ℕ) → all ≡ form c ++ more → next ≡ name_of c)
+    → next ≡ codes "If" → (x : plain.Statement) → IsHeld (statement_code x) → (P : Type 0) (more : List ℕ)
+    → ((y : (Attributed plain.IfStatement)) → IsHeld (attributed_code if_code y)
+    → all ≡ codes "{\"If\":" ++ (form (attributed_code if_code y) ++ (codes "}" ++ more)) → P)
+    → all ≡ form (statement_code x) ++ more → P
+if_inside = inside_next statement_code statement_plain (codes "If") (attributed_code if_code) statement_at_if refl
+
+pub switch_inside : {all next : List ℕ}
+    → ((c : Code) → HasPlainName c → (more : List ℕ) → all ≡ form c ++ more → next ≡ name_of c)
+    → next ≡ codes "Switch" → (x : plain.Statement) → IsHeld (statement_code x) → (P : Type 0) (more : List ℕ)
+    → ((y : (Attributed plain.SwitchStatement)) → IsHeld (attributed_code switch_code y)
+    → all ≡ codes "{\"Switch\":" ++ (form (attributed_code switch_code y) ++ (codes "}" ++ more)) → P)
+    → all ≡ form (statement_code x) ++ more → P
+switch_inside = inside_next statement_code statement_plain (codes "Switch")
+    (attributed_code switch_code) statement_at_switch refl
+
+pub loop_inside : {all next : List ℕ}
+    → ((c : Code) → HasPlainName c → (more : List ℕ) → all ≡ form c ++ more → next ≡ name_of c)
+    → next ≡ codes "Loop" → (x : plain.Statement) → IsHeld (statement_code x) → (P : Type 0) (more : List ℕ)
+    → ((y : (Attributed plain.LoopStatement)) → IsHeld (attributed_code loop_code y)
+    → all ≡ codes "{\"Loop\":" ++ (form (attributed_code loop_code y) ++ (codes "}" ++ more)) → P)
+    → all ≡ form (statement_code x) ++ more → P
+loop_inside = inside_next statement_code statement_plain (codes "Loop")
+    (attributed_code loop_code) statement_at_loop refl
+
+pub for_inside : {all next : List ℕ}
+    → ((c : Code) → HasPlainName c → (more : List ℕ) → all ≡ form c ++ more → next ≡ name_of c)
+    → next ≡ codes "For" → (x : plain.Statement) → IsHeld (statement_code x) → (P : Type 0) (more : List ℕ)
+    → ((y : (Attributed plain.ForStatement)) → IsHeld (attributed_code for_code y)
+    → all ≡ codes "{\"For\":" ++ (form (attributed_code for_code y) ++ (codes "}" ++ more)) → P)
+    → all ≡ form (statement_code x) ++ more → P
+for_inside = inside_next statement_code statement_plain (codes "For") (attributed_code for_code) statement_at_for refl
+
+pub while_inside : {all next : List ℕ}
+    → ((c : Code) → HasPlainName c → (more : List ℕ) → all ≡ form c ++ more → next ≡ name_of c)
+    → next ≡ codes "While" → (x : plain.Statement) → IsHeld (statement_code x) → (P : Type 0) (more : List ℕ)
+    → ((y : (Attributed plain.WhileStatement)) → IsHeld (attributed_code while_code y)
+    → all ≡ codes "{\"While\":" ++ (form (attributed_code while_code y) ++ (codes "}" ++ more)) → P)
+    → all ≡ form (statement_code x) ++ more → P
+while_inside = inside_next statement_code statement_plain (codes "While")
+    (attributed_code while_code) statement_at_while refl
+
+statements_are_of : (xs : plain.StatementNodes) → AreOf statement_node_code (statements_code xs)
 statements_are_of plain.no_statements = tt
 statements_are_of (plain.statement_before x xs) = ((x, refl), statements_are_of xs)
 
-pub else_ifs_are_of : (xs : plain.ElseIfClauses) → AreOf else_if_clause_code (else_ifs_code xs)
+pub statements_next : {all more : List ℕ} (xs : plain.StatementNodes) → IsHeld (list (statements_code xs))
+    → all ≡ form (list (statements_code xs)) ++ more → WasNext statement_node_code all more
+statements_next xs held e =
+    record { items = statements_code xs; are_of = statements_are_of xs; held = held; next = e }
+
+else_ifs_are_of : (xs : plain.ElseIfClauses) → AreOf else_if_clause_code (else_ifs_code xs)
 else_ifs_are_of plain.no_else_ifs = tt
 else_ifs_are_of (plain.else_if_before x xs) = ((x, refl), else_ifs_are_of xs)
 
-pub clauses_are_of : (xs : plain.SwitchClauses) → AreOf switch_clause_code (clauses_code xs)
+pub else_ifs_next : {all more : List ℕ} (xs : plain.ElseIfClauses) → IsHeld (list (else_ifs_code xs))
+    → all ≡ form (list (else_ifs_code xs)) ++ more → WasNext else_if_clause_code all more
+else_ifs_next xs held e =
+    record { items = else_ifs_code xs; are_of = else_ifs_are_of xs; held = held; next = e }
+
+clauses_are_of : (xs : plain.SwitchClauses) → AreOf switch_clause_code (clauses_code xs)
 clauses_are_of plain.no_clauses = tt
 clauses_are_of (plain.clause_before x xs) = ((x, refl), clauses_are_of xs)
+
+pub clauses_next : {all more : List ℕ} (xs : plain.SwitchClauses) → IsHeld (list (clauses_code xs))
+    → all ≡ form (list (clauses_code xs)) ++ more → WasNext switch_clause_code all more
+clauses_next xs held e =
+    record { items = clauses_code xs; are_of = clauses_are_of xs; held = held; next = e }
 
 pub part_next : (x : plain.MaybeStatement) → IsHeld (part_code x) → (P : Type 0) (all more : List ℕ)
     → ((u : List ℕ) → all ≢ codes "null" ++ u)

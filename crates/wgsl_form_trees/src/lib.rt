@@ -9,6 +9,7 @@ mod number;
 mod opening;
 mod part;
 mod simple_nodes;
+mod simple_statement;
 mod statement_nodes;
 mod text;
 mod traits;

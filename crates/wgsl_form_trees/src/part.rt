@@ -43,6 +43,16 @@ pub fn read_between<T: FromForm + Drop>(
     Ok(value)
 }
 
+/// Reads the end of a node after its fields, and returns the node.
+pub fn end_node<T: Drop>(reader: &mut Reader, node: T) -> Result<T, FormError>
+    ensures read { IfOk result (λ value. (value ≡ node)
+        × (rest reader.old ≡ codes "}" ++ rest reader.new)) }
+    ensures taken { IsReadWhereNext (codes "}") result reader.old reader.new }
+{
+    reader.expect("}")?;
+    Ok(node)
+}
+
 /// Reads two fields.
 pub fn read_both<A: FromForm + Drop, B: FromForm + Drop>(
     alloc: Global,

@@ -10,13 +10,13 @@ ghost use Rattle.wgsl_tree_statement.specs.View.{compound_statement_view, contin
 ghost use Rattle.wgsl_form_reader.specs.Reading.{IsRead};
 ghost use Rattle.wgsl_model.specs.Trees.Attributed.{Attributed};
 ghost use Rattle.wgsl_form_trees.specs.Reading.{IsTakenWhereNext};
-ghost use Rattle.wgsl_form_trees.specs.Simple.{IsSimple};
 
-use crate::part::{read_between, read_field};
+use crate::part::{end_node, read_between, read_field};
+use crate::simple_statement::read_simple_statement;
 use crate::text::read_place;
 use crate::traits::FromForm;
 use std::alloc::Global;
-use wgsl_form_reader::{FormError, FormErrorKind, Reader};
+use wgsl_form_reader::{FormError, Reader};
 use wgsl_span::Spanned;
 use wgsl_tree_statement::{
     CompoundStatement, ContinuingStatement, ElseClause, ElseIfClause, ForStatement, IfClause,
@@ -108,61 +108,6 @@ impl FromForm for ContinuingStatement {
     }
 }
 
-fn read_simple_statement(alloc: Global, reader: &mut Reader) -> Result<Statement, FormError>
-    ensures read { IfOk result (λ node. IsRead
-        (statement_code (statement_view node))
-        reader.old reader.new) }
-    ensures taken { (value : plain.Statement) → IsSimple value → IsTakenWhereNext (statement_code value) result reader.old reader.new }
-{
-    match reader.next_name() {
-        "Void" => {
-            reader.expect("\"Void\"")?;
-            Ok(Statement::Void)
-        }
-        "Assignment" => {
-            let inner = read_between(alloc, reader, "{\"Assignment\":", "}")?;
-            Ok(Statement::Assignment(inner))
-        }
-        "Increment" => {
-            let inner = read_between(alloc, reader, "{\"Increment\":", "}")?;
-            Ok(Statement::Increment(inner))
-        }
-        "Decrement" => {
-            let inner = read_between(alloc, reader, "{\"Decrement\":", "}")?;
-            Ok(Statement::Decrement(inner))
-        }
-        "Break" => {
-            let inner = read_between(alloc, reader, "{\"Break\":", "}")?;
-            Ok(Statement::Break(inner))
-        }
-        "Continue" => {
-            let inner = read_between(alloc, reader, "{\"Continue\":", "}")?;
-            Ok(Statement::Continue(inner))
-        }
-        "Return" => {
-            let inner = read_between(alloc, reader, "{\"Return\":", "}")?;
-            Ok(Statement::Return(inner))
-        }
-        "Discard" => {
-            let inner = read_between(alloc, reader, "{\"Discard\":", "}")?;
-            Ok(Statement::Discard(inner))
-        }
-        "FunctionCall" => {
-            let inner = read_between(alloc, reader, "{\"FunctionCall\":", "}")?;
-            Ok(Statement::FunctionCall(inner))
-        }
-        "ConstAssert" => {
-            let inner = read_between(alloc, reader, "{\"ConstAssert\":", "}")?;
-            Ok(Statement::ConstAssert(inner))
-        }
-        "Declaration" => {
-            let inner = read_between(alloc, reader, "{\"Declaration\":", "}")?;
-            Ok(Statement::Declaration(inner))
-        }
-        _ => Err(reader.error(FormErrorKind::Expected("a statement"))),
-    }
-}
-
 #[cycle(statements)]
 fn read_statement(alloc: Global, reader: &mut Reader) -> Result<Statement, FormError>
     ensures read { IfOk result (λ node. IsRead
@@ -174,38 +119,32 @@ fn read_statement(alloc: Global, reader: &mut Reader) -> Result<Statement, FormE
         "Compound" => {
             reader.expect("{\"Compound\":")?;
             let inner = read_compound_statement(alloc, reader)?;
-            reader.expect("}")?;
-            Ok(Statement::Compound(inner))
+            end_node(reader, Statement::Compound(inner))
         }
         "If" => {
             reader.expect("{\"If\":")?;
             let inner = read_if_statement(alloc, reader)?;
-            reader.expect("}")?;
-            Ok(Statement::If(inner))
+            end_node(reader, Statement::If(inner))
         }
         "Switch" => {
             reader.expect("{\"Switch\":")?;
             let inner = read_switch_statement(alloc, reader)?;
-            reader.expect("}")?;
-            Ok(Statement::Switch(inner))
+            end_node(reader, Statement::Switch(inner))
         }
         "Loop" => {
             reader.expect("{\"Loop\":")?;
             let inner = read_loop_statement(alloc, reader)?;
-            reader.expect("}")?;
-            Ok(Statement::Loop(inner))
+            end_node(reader, Statement::Loop(inner))
         }
         "For" => {
             reader.expect("{\"For\":")?;
             let inner = read_for_statement(alloc, reader)?;
-            reader.expect("}")?;
-            Ok(Statement::For(inner))
+            end_node(reader, Statement::For(inner))
         }
         "While" => {
             reader.expect("{\"While\":")?;
             let inner = read_while_statement(alloc, reader)?;
-            reader.expect("}")?;
-            Ok(Statement::While(inner))
+            end_node(reader, Statement::While(inner))
         }
         _ => read_simple_statement(alloc, reader),
     }
@@ -234,14 +173,13 @@ fn read_compound_statement(
         reader.old reader.new) }
     ensures taken { (value : plain.CompoundStatement) → IsTakenWhereNext (compound_code value) result reader.old reader.new }
 {
-    let attributes = read_field(alloc, reader, "{\"attributes\":")?;
-    reader.expect(",\"statements\":")?;
+    let attributes = read_between(alloc, reader, "{\"attributes\":", ",\"statements\":")?;
     let statements = read_statement_nodes(alloc, reader)?;
-    reader.expect("}")?;
-    Ok(CompoundStatement {
+    let node = CompoundStatement {
         attributes,
         statements,
-    })
+    };
+    end_node(reader, node)
 }
 
 #[cycle(statements)]
@@ -251,20 +189,19 @@ fn read_if_statement(alloc: Global, reader: &mut Reader) -> Result<IfStatement, 
         reader.old reader.new) }
     ensures taken { (value : Attributed plain.IfStatement) → IsTakenWhereNext (attributed_code if_code value) result reader.old reader.new }
 {
-    let attributes = read_field(alloc, reader, "{\"attributes\":")?;
-    reader.expect(",\"if_clause\":")?;
+    let attributes = read_between(alloc, reader, "{\"attributes\":", ",\"if_clause\":")?;
     let if_clause = read_if_clause(alloc, reader)?;
     reader.expect(",\"else_if_clauses\":")?;
     let else_if_clauses = read_else_if_clauses(alloc, reader)?;
     reader.expect(",\"else_clause\":")?;
     let else_clause = read_optional_else_clause(alloc, reader)?;
-    reader.expect("}")?;
-    Ok(IfStatement {
+    let node = IfStatement {
         attributes,
         if_clause,
         else_if_clauses,
         else_clause,
-    })
+    };
+    end_node(reader, node)
 }
 
 #[cycle(statements)]
@@ -274,11 +211,10 @@ fn read_if_clause(alloc: Global, reader: &mut Reader) -> Result<IfClause, FormEr
         reader.old reader.new) }
     ensures taken { (value : plain.IfClause) → IsTakenWhereNext (if_clause_code value) result reader.old reader.new }
 {
-    let expression = read_field(alloc, reader, "{\"expression\":")?;
-    reader.expect(",\"body\":")?;
+    let expression = read_between(alloc, reader, "{\"expression\":", ",\"body\":")?;
     let body = read_compound_statement(alloc, reader)?;
-    reader.expect("}")?;
-    Ok(IfClause { expression, body })
+    let node = IfClause { expression, body };
+    end_node(reader, node)
 }
 
 #[cycle(statements)]
@@ -289,15 +225,14 @@ fn read_else_if_clause(alloc: Global, reader: &mut Reader) -> Result<ElseIfClaus
     ensures taken { (value : plain.ElseIfClause) → IsTakenWhereNext (else_if_clause_code value) result reader.old reader.new }
 {
     let attributes = read_field(alloc, reader, "{\"attributes\":")?;
-    let expression = read_field(alloc, reader, ",\"expression\":")?;
-    reader.expect(",\"body\":")?;
+    let expression = read_between(alloc, reader, ",\"expression\":", ",\"body\":")?;
     let body = read_compound_statement(alloc, reader)?;
-    reader.expect("}")?;
-    Ok(ElseIfClause {
+    let node = ElseIfClause {
         attributes,
         expression,
         body,
-    })
+    };
+    end_node(reader, node)
 }
 
 #[cycle(statements)]
@@ -307,11 +242,10 @@ fn read_else_clause(alloc: Global, reader: &mut Reader) -> Result<ElseClause, Fo
         reader.old reader.new) }
     ensures taken { (value : plain.ElseClause) → IsTakenWhereNext (else_clause_code value) result reader.old reader.new }
 {
-    let attributes = read_field(alloc, reader, "{\"attributes\":")?;
-    reader.expect(",\"body\":")?;
+    let attributes = read_between(alloc, reader, "{\"attributes\":", ",\"body\":")?;
     let body = read_compound_statement(alloc, reader)?;
-    reader.expect("}")?;
-    Ok(ElseClause { attributes, body })
+    let node = ElseClause { attributes, body };
+    end_node(reader, node)
 }
 
 #[cycle(statements)]
@@ -323,16 +257,15 @@ fn read_switch_statement(alloc: Global, reader: &mut Reader) -> Result<SwitchSta
 {
     let attributes = read_field(alloc, reader, "{\"attributes\":")?;
     let expression = read_field(alloc, reader, ",\"expression\":")?;
-    let body_attributes = read_field(alloc, reader, ",\"body_attributes\":")?;
-    reader.expect(",\"clauses\":")?;
+    let body_attributes = read_between(alloc, reader, ",\"body_attributes\":", ",\"clauses\":")?;
     let clauses = read_switch_clauses(alloc, reader)?;
-    reader.expect("}")?;
-    Ok(SwitchStatement {
+    let node = SwitchStatement {
         attributes,
         expression,
         body_attributes,
         clauses,
-    })
+    };
+    end_node(reader, node)
 }
 
 #[cycle(statements)]
@@ -343,15 +276,14 @@ fn read_switch_clause(alloc: Global, reader: &mut Reader) -> Result<SwitchClause
     ensures taken { (value : plain.SwitchClause) → IsTakenWhereNext (switch_clause_code value) result reader.old reader.new }
 {
     let attributes = read_field(alloc, reader, "{\"attributes\":")?;
-    let case_selectors = read_field(alloc, reader, ",\"case_selectors\":")?;
-    reader.expect(",\"body\":")?;
+    let case_selectors = read_between(alloc, reader, ",\"case_selectors\":", ",\"body\":")?;
     let body = read_compound_statement(alloc, reader)?;
-    reader.expect("}")?;
-    Ok(SwitchClause {
+    let node = SwitchClause {
         attributes,
         case_selectors,
         body,
-    })
+    };
+    end_node(reader, node)
 }
 
 #[cycle(statements)]
@@ -361,17 +293,16 @@ fn read_loop_statement(alloc: Global, reader: &mut Reader) -> Result<LoopStateme
         reader.old reader.new) }
     ensures taken { (value : Attributed plain.LoopStatement) → IsTakenWhereNext (attributed_code loop_code value) result reader.old reader.new }
 {
-    let attributes = read_field(alloc, reader, "{\"attributes\":")?;
-    reader.expect(",\"body\":")?;
+    let attributes = read_between(alloc, reader, "{\"attributes\":", ",\"body\":")?;
     let body = read_compound_statement(alloc, reader)?;
     reader.expect(",\"continuing\":")?;
     let continuing = read_optional_continuing_statement(alloc, reader)?;
-    reader.expect("}")?;
-    Ok(LoopStatement {
+    let node = LoopStatement {
         attributes,
         body,
         continuing,
-    })
+    };
+    end_node(reader, node)
 }
 
 #[cycle(statements)]
@@ -381,22 +312,20 @@ fn read_for_statement(alloc: Global, reader: &mut Reader) -> Result<ForStatement
         reader.old reader.new) }
     ensures taken { (value : Attributed plain.ForStatement) → IsTakenWhereNext (attributed_code for_code value) result reader.old reader.new }
 {
-    let attributes = read_field(alloc, reader, "{\"attributes\":")?;
-    reader.expect(",\"initializer\":")?;
+    let attributes = read_between(alloc, reader, "{\"attributes\":", ",\"initializer\":")?;
     let initializer = read_optional_statement_node(alloc, reader)?;
-    let condition = read_field(alloc, reader, ",\"condition\":")?;
-    reader.expect(",\"update\":")?;
+    let condition = read_between(alloc, reader, ",\"condition\":", ",\"update\":")?;
     let update = read_optional_statement_node(alloc, reader)?;
     reader.expect(",\"body\":")?;
     let body = read_compound_statement(alloc, reader)?;
-    reader.expect("}")?;
-    Ok(ForStatement {
+    let node = ForStatement {
         attributes,
         initializer,
         condition,
         update,
         body,
-    })
+    };
+    end_node(reader, node)
 }
 
 #[cycle(statements)]
@@ -407,15 +336,14 @@ fn read_while_statement(alloc: Global, reader: &mut Reader) -> Result<WhileState
     ensures taken { (value : Attributed plain.WhileStatement) → IsTakenWhereNext (attributed_code while_code value) result reader.old reader.new }
 {
     let attributes = read_field(alloc, reader, "{\"attributes\":")?;
-    let condition = read_field(alloc, reader, ",\"condition\":")?;
-    reader.expect(",\"body\":")?;
+    let condition = read_between(alloc, reader, ",\"condition\":", ",\"body\":")?;
     let body = read_compound_statement(alloc, reader)?;
-    reader.expect("}")?;
-    Ok(WhileStatement {
+    let node = WhileStatement {
         attributes,
         condition,
         body,
-    })
+    };
+    end_node(reader, node)
 }
 
 #[cycle(statements)]
@@ -428,11 +356,9 @@ fn read_continuing_statement(
         reader.old reader.new) }
     ensures taken { (value : plain.ContinuingStatement) → IsTakenWhereNext (continuing_code value) result reader.old reader.new }
 {
-    let attributes = read_field(alloc, reader, "{\"attributes\":")?;
-    reader.expect(",\"body\":")?;
+    let attributes = read_between(alloc, reader, "{\"attributes\":", ",\"body\":")?;
     let body = read_compound_statement(alloc, reader)?;
-    let break_if = read_field(alloc, reader, ",\"break_if\":")?;
-    reader.expect("}")?;
+    let break_if = read_between(alloc, reader, ",\"break_if\":", "}")?;
     Ok(ContinuingStatement {
         attributes,
         body,

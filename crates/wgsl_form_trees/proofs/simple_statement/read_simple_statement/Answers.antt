@@ -3,12 +3,12 @@ use Rattle.std.proofs.Common.{refl, sym, ap, codes, ◌∙◌}
 use Rattle.wgsl_tree_code.specs.Code.{attributed_code}
 use Rattle.wgsl_form_trees.proofs.Arms.{held_next, word_next}
 use Rattle.wgsl_form_trees.proofs.Passing.{after, told}
-use Rattle.wgsl_form_trees.proofs.Rows.{held, read_as}
+use Rattle.wgsl_form_trees.proofs.Rows.{read_as}
 use Rattle.wgsl_form_trees.proofs.StatementNames.{statement_plain, statement_at_void, statement_at_assignment, statement_at_increment, statement_at_decrement, statement_at_break, statement_at_continue, statement_at_return, statement_at_discard, statement_at_function_call, statement_at_const_assert, statement_at_declaration}
 use Rattle.wgsl_form_trees.proofs.StatementsNext.{no_simple}
 use Rattle.wgsl_tree_statement.proofs.Views.{is_assignment, is_break, is_const_assert, is_continue, is_declaration, is_decrement, is_discard, is_function_call, is_increment, is_return}
 use Rattle.wgsl_tree_code.specs.StatementNodes.{assert_code, assignment_code, break_code, call_statement_code, continue_code, declaration_code, decrement_code, discard_code, increment_code, return_code, statement_code}
-use Rattle.wgsl_form_trees.proofs.statement_nodes.read_simple_statement.Goals as goal
+use Rattle.wgsl_form_trees.proofs.simple_statement.read_simple_statement.Goals as goal
 
 pub returns-in_ok-inner-in-Assignment-clause-read : goal.returns-in_ok-inner-in-Assignment-clause-read
 returns-in_ok-inner-in-Assignment-clause-read c = read_as _
