@@ -11,7 +11,8 @@ use Rattle.wgsl_form_laws.specs.Unique.{HaveOwnForms}
 use Rattle.wgsl_buffers.specs.Kinds.{IsNoForm, IsNoFormOf, IsPrint, IsPrintOf, kind_of}
 
 -- what is returned where the node that a form describes is printed: its printed text, or an error
-abbrev pub IsPrinted : {Node : Type 0} → (Node → Code) → (Node → List ℕ) → List ℕ → Result (String Global) FormError → Type 0
+abbrev pub IsPrinted : {Node : Type 0} → (Node → Code) → (Node → List ℕ) → List ℕ
+    → Result (String Global) FormError → Type 0
 IsPrinted code print f r = IfOk r (λ text. IsPrintOf code print f (string_bytes text))
     × IfErr r (λ error. (error.kind ≡ reasons.OutOfMemory) ⊎ IsNoFormOf code f)
 

@@ -89,11 +89,7 @@ pub fn tell_bytes(bytes: &[u8], buffer: &mut [u8], answer: &mut Answer) -> u32
         ((result ≡ 4) × Lacks bytes.now buffer.old buffer.new answer.new) }
 {
     *answer = Answer::of_size(bytes.len());
-    if give(bytes, buffer) {
-        DONE
-    } else {
-        TOO_SMALL
-    }
+    if give(bytes, buffer) { DONE } else { TOO_SMALL }
 }
 
 /// Gives a text as the result of a call, and returns the status.
