@@ -21,12 +21,12 @@
  * change until the call returns; the buffer and the answer can be written, whatever they hold; what
  * is read, the buffer and the answer do not overlap; and there is enough stack.
  * A text nests as deep as its brackets, blocks, template lists and prefix operators do, and each
- * takes stack while the text is read: as measured over wgsl_recognize, wgsl_check, wgsl_format and
- * wgsl_tree, at most 2,750 bytes for a block with its statement and 1,200 for each other, in
- * wgsl_minify 2,900 and 1,600, and in wgsl_tidy 1,250 for each. wgsl_nesting returns how deep a
- * text nests, and takes no such stack. In wgsl_print each node inside another takes at most 5,700
- * bytes for a block with its statement and 2,300 for each other. A left operand, and what is before
- * a component or an index, takes none.
+ * takes stack while the text is read: as measured over wgsl_recognize, wgsl_check, wgsl_format,
+ * wgsl_tree and wgsl_c_packed_tree, at most 2,750 bytes for a block with its statement and 1,200 for
+ * each other, in wgsl_minify 2,900 and 1,600, and in wgsl_tidy 1,250 for each. wgsl_nesting returns
+ * how deep a text nests, and takes no such stack; nor does wgsl_c_print_packed. In wgsl_print each
+ * node inside another takes at most 5,700 bytes for a block with its statement and 2,300 for each
+ * other. A left operand, and what is before a component or an index, takes none.
  *
  * Memory. While it runs, a call takes memory by the program's malloc, realloc and free, and gives
  * all of it back before it returns. Where they fail, the status is WGSL_OUT_OF_MEMORY. The three
@@ -84,7 +84,7 @@ enum wgsl_fault {
     /* A `var` template whose arguments do not fit. */
     WGSL_VAR_TEMPLATE = 8,
     /* A text that is not the form of a node, or a number or a span in it that no node has. Only
-     * wgsl_print returns it. */
+     * wgsl_print and wgsl_c_print_packed return it. */
     WGSL_NOT_A_FORM = 10
 };
 
@@ -262,8 +262,10 @@ enum wgsl_token_kind {
 /* The exports of the library, which the functions below call. They are for languages that read no
  * header. They test no pointer and no number: none of theirs may be null, even with the number 0,
  * and what is counted has at most WGSL_GREATEST bytes. wgsl_c_packed_tree and wgsl_c_print_packed
- * are for the Rust crate: they are wgsl_tree and wgsl_print with the packed form of the tree, which
- * docs/TREE.md describes, in place of JSON; what is printed does not depend on the kind. */
+ * are for the Rust crate, and no function below calls them: they are wgsl_tree and wgsl_print with
+ * the packed form of the tree, which docs/TREE.md describes, in place of JSON. What is printed does
+ * not depend on the kind, and is UTF-8 if the texts in the form are; other bytes are WGSL_REFUSED
+ * with WGSL_NOT_A_FORM, without a place or a text. */
 uint32_t wgsl_c_format(const uint8_t *text, size_t size, uint8_t *buffer, size_t buffer_size,
                        struct wgsl_answer *answer);
 uint32_t wgsl_c_tidy(const struct wgsl_layout *layout, const uint8_t *text, size_t size,

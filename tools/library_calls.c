@@ -489,7 +489,8 @@ static int check_packed(void) {
     };
     static const char module[] = "fn f(){if a{b=-c;}}";
     static const char text[] = "fn f() {\n    if a {\n        b = -c;\n    }\n}\n";
-    uint8_t form[1024], buffer[64];
+    static uint8_t form[1024];
+    uint8_t buffer[64];
     size_t size;
     CHECK(pack(WGSL_EXPRESSION, "a.b", form, sizeof form) == WGSL_DONE && is_size(sizeof named));
     CHECK(memcmp(form, named, sizeof named) == 0);

@@ -62,18 +62,18 @@ pub static RULES: [&str; {len(rules)}] = [
 """
 
 
-def constants(rules, kind):
+def constants(rules):
     """The number of each rule as a constant."""
     lines = "".join(
-        f"{'    ' * 0}/// {what[0].upper()}{what[1:]}.\npub const {name.upper()}: {kind} = {number};\n\n"
+        f"/// {what[0].upper()}{what[1:]}.\npub const {name.upper()}: u8 = {number};\n\n"
         for number, (name, _, what) in enumerate(rules))
     return f"//! {BY}: their numbers.\n\n{lines}".rstrip("\n") + "\n"
 
 
 def main():
     rules = read()
-    written = {SPECS: definition(rules), TABLE: table(rules), NUMBERS: constants(rules, "u8"),
-               BINDING: constants(rules, "u8").replace("pub const", "pub(super) const")}
+    written = {SPECS: definition(rules), TABLE: table(rules), NUMBERS: constants(rules),
+               BINDING: constants(rules).replace("pub const", "pub(super) const")}
     for path, text in written.items():
         if path.parent.is_dir():
             path.write_text(text)

@@ -2,7 +2,7 @@
 //!
 //! What a call requires, as `wgsl.h` says, is what Rust's references give: memory that can be read
 //! or written, is apart and stays as it is for the call. Of the stack, each level of nesting
-//! takes at most 2,750 bytes as measured, and 5,700 where a tree is printed, so that a text or a
+//! takes at most 2,750 bytes as measured, and 5,700 where JSON is printed, so that a text or a
 //! tree which nests too deep reaches the guard page at the end of the stack, as a recursion of
 //! Rust's does, and ends the process.
 

@@ -26,7 +26,7 @@
 //! form.
 //!
 //! What nests takes stack when the library reads or prints it: [`nesting`] returns how deep a text
-//! nests. A tree of any depth is dropped, copied, compared and hashed with little stack; walks,
+//! nests. [`parse`] and `{}` may take a megabyte more. A tree of any depth is dropped, copied, compared and hashed with little stack; walks,
 //! `{}` and `{:?}` take stack for each level. All calls may be made from any thread, at the same
 //! time too.
 #![deny(unsafe_code, missing_docs)]

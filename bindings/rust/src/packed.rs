@@ -18,7 +18,7 @@ pub use writer::{Packed, Writer};
 
 /// How many expressions and statements are read or written inside one another. What nests deeper
 /// has no packed form here, so that neither takes more than a megabyte of stack, half of what a
-/// thread of Rust's has: a level takes up to 10,000 bytes without optimization.
+/// thread that std starts has by default: a level takes up to 10,000 bytes without optimization.
 const DEEPEST: usize = 100;
 
 /// Why no tree is read from a packed form.

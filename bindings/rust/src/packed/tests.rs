@@ -135,8 +135,8 @@ fn nodes_made_at_random_print_by_their_packed_forms() {
     check_made::<TypeConstraint>(check_print);
 }
 
-/// A form that is cut off, has more after it, or has another byte is not read as a tree, or is the
-/// form of another one.
+/// A form that is cut off or has more after it is not read; one with another byte is read or
+/// rejected, without a panic.
 #[test]
 fn other_bytes_are_no_packed_forms() {
     for seed in 0..200 {
@@ -179,7 +179,7 @@ fn blocks(levels: usize) -> Statement {
     })
 }
 
-/// Returns a sum in so many parentheses, each the right operand of another sum.
+/// Returns so many sums, each the right operand of another.
 fn sums(levels: usize) -> Expression {
     let name = || Expression::from(Ident::from("a"));
     (0..levels).fold(name(), |inside, _| {
