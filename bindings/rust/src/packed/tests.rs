@@ -191,6 +191,72 @@ fn sums(levels: usize) -> Expression {
     })
 }
 
+/// Returns so many loops, each after the turns of another.
+fn loops(levels: usize) -> Statement {
+    (0..levels).fold(Statement::Void, |inside, _| {
+        let body = CompoundStatement {
+            attributes: Vec::new(),
+            statements: vec![inside.into()],
+        };
+        let continuing = ContinuingStatement {
+            attributes: Vec::new(),
+            body,
+            break_if: None,
+        };
+        Statement::from(LoopStatement {
+            attributes: Vec::new(),
+            body: CompoundStatement::default(),
+            continuing: Some(continuing),
+        })
+    })
+}
+
+/// Returns an empty statement in so many clauses of `switch`.
+fn switches(levels: usize) -> Statement {
+    (0..levels).fold(Statement::Void, |inside, _| {
+        let body = CompoundStatement {
+            attributes: Vec::new(),
+            statements: vec![inside.into()],
+        };
+        let clause = SwitchClause {
+            attributes: Vec::new(),
+            case_selectors: vec![CaseSelector::Default],
+            body,
+        };
+        Statement::from(SwitchStatement {
+            attributes: Vec::new(),
+            expression: Expression::from(true).into(),
+            body_attributes: Vec::new(),
+            clauses: vec![clause],
+        })
+    })
+}
+
+/// Returns a name as the argument of so many calls.
+fn calls(levels: usize) -> Expression {
+    let name = || Ident::from("a");
+    (0..levels).fold(Expression::from(name()), |inside, _| {
+        Expression::from(FunctionCall {
+            ty: name().into(),
+            arguments: vec![inside.into()],
+        })
+    })
+}
+
+/// Returns a name in so many template lists.
+fn templates(levels: usize) -> Expression {
+    let name = || Ident::from("a");
+    (0..levels).fold(Expression::from(name()), |inside, _| {
+        let argument = TemplateArg {
+            expression: inside.into(),
+        };
+        Expression::from(TypeExpression {
+            ident: name(),
+            template_args: Some(vec![argument]),
+        })
+    })
+}
+
 /// Checks that trees with so many levels have a packed form, and deeper ones none.
 fn check_levels<T: Packed + Unpacked + PartialEq>(tree: impl Fn(usize) -> T, levels: usize) {
     let deepest = tree(levels);
@@ -206,7 +272,11 @@ fn trees_that_nest_too_deep_have_no_packed_form() {
     let thread = std::thread::Builder::new().stack_size(STACK << 10);
     let run = || {
         check_levels(blocks, super::DEEPEST);
+        check_levels(loops, super::DEEPEST);
+        check_levels(switches, super::DEEPEST);
         check_levels(sums, super::DEEPEST);
+        check_levels(calls, super::DEEPEST);
+        check_levels(templates, super::DEEPEST);
     };
     thread.spawn(run).expect("a thread").join().expect("holds");
 }
