@@ -128,7 +128,7 @@ pub fn recognize(text: &str) -> Result<(), Fault> {
 /// let GlobalDeclaration::TypeAlias(alias) = &*unit.global_declarations[0] else {
 ///     panic!("no alias");
 /// };
-/// assert_eq!(alias.ident.name, "A");
+/// assert_eq!(alias.ident.name(), "A");
 /// # Ok::<(), centrelilac::Fault>(())
 /// ```
 pub fn parse(text: &str) -> Result<TranslationUnit, Fault> {

@@ -29,7 +29,7 @@
 //!
 //! impl VisitMut for Rename {
 //!     fn visit_ident_mut(&mut self, ident: &mut Ident) {
-//!         ident.name.push('_');
+//!         ident.rename(format!("{ident}_"));
 //!     }
 //! }
 //!

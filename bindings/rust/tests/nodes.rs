@@ -321,3 +321,25 @@ fn messages_name_a_few_expected_tokens() {
         .message
         .ends_with(&format!("expected `{}`", error.expected.join(", "))));
 }
+
+/// A name keeps its bytes whatever their number, as it is made, copied and renamed.
+#[test]
+fn names_of_any_size_are_kept() {
+    let mut renamed = Ident::from("a");
+    let mut all = HashSet::from([renamed.clone()]);
+    for letter in ["b", "é", "\u{10400}"] {
+        for count in [0, 1, 5, 6, 10, 11, 12, 21, 22, 23, 24, 1000] {
+            let text = letter.repeat(count);
+            let (made, read) = (Ident::new(text.clone()), Ident::from(text.as_str()));
+            assert_eq!((made.name(), read.name()), (text.as_str(), text.as_str()));
+            assert_eq!((&made, made.to_string()), (&read, text.clone()));
+            assert_ne!(renamed, made);
+            renamed.rename(text);
+            assert_eq!(renamed, made);
+            assert_eq!(all.insert(made.clone()), count > 0 || letter == "b");
+            assert!(!all.insert(made));
+        }
+    }
+    assert_eq!(all.len(), 1 + 1 + 3 * 11);
+    assert_eq!(format!("{:?}", Ident::from("a")), "Ident(\"a\")");
+}

@@ -142,7 +142,7 @@ struct Mangle;
 
 impl VisitMut for Mangle {
     fn visit_ident_mut(&mut self, ident: &mut Ident) {
-        ident.name.insert(0, '_');
+        ident.rename(format!("_{ident}"));
     }
 
     fn visit_named_component_expression_mut(&mut self, node: &mut NamedComponentExpression) {

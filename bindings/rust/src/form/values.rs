@@ -2,6 +2,7 @@
 
 use super::sealed::Written;
 use super::{FormError, FormErrorKind, Reader, Writer};
+use crate::syntax::Ident;
 use std::fmt::Write;
 
 impl Written for bool {
@@ -73,6 +74,16 @@ impl Written for String {
             return Ok(text.to_owned());
         }
         read_escapes(text.to_owned(), from)
+    }
+}
+
+impl Written for Ident {
+    fn write<'t>(&'t self, out: &mut Writer<'t>) {
+        write_text(self.name(), &mut out.form);
+    }
+
+    fn read(from: &mut Reader<'_>) -> Result<Self, FormError> {
+        String::read(from).map(Ident::new)
     }
 }
 

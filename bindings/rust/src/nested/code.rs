@@ -118,7 +118,7 @@ impl<T: Nested> Coded for Spanned<T> {
 
 impl Coded for Ident {
     fn code<'t>(&'t self, code: &mut Code<'t>) {
-        code.text(&self.name);
+        code.text(self.name());
     }
 
     fn copied<'t>(&'t self, _: &mut Copies<'t>) -> Self {

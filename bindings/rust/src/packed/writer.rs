@@ -8,6 +8,7 @@ mod units;
 use super::rules::*;
 use super::DEEPEST;
 use crate::span::Span;
+use crate::syntax::Ident;
 use expressions::Link;
 
 /// A node that has a packed form.
@@ -93,8 +94,20 @@ impl<'t> Writer<'t> {
     /// Writes a text.
     #[inline]
     fn text(&mut self, text: &str) {
+        self.bytes(text.as_bytes());
+    }
+
+    /// Writes a name.
+    #[inline]
+    fn ident(&mut self, ident: &Ident) {
+        self.bytes(ident.bytes());
+    }
+
+    /// Writes the bytes of a text.
+    #[inline]
+    fn bytes(&mut self, text: &[u8]) {
         self.number(text.len());
-        self.form.extend_from_slice(text.as_bytes());
+        self.form.extend_from_slice(text);
     }
 
     /// Opens an expression or a statement, and returns whether it is to be written: not too many

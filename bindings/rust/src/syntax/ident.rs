@@ -1,17 +1,26 @@
 //! Names.
 
-use crate::form::sealed::Written;
-use crate::form::{FormError, Reader, Writer};
 use std::fmt;
+use std::hash::{Hash, Hasher};
 
 /// A name. Two are equal if they are spelled the same.
 ///
 /// Each place in a tree has its own: a copy of a name does not change when the name does, and
-/// [`VisitMut`](crate::visit::VisitMut) reaches all names of a tree.
-#[derive(Clone, Debug, PartialEq, Eq, Hash)]
-pub struct Ident {
-    /// How it is spelled.
-    pub name: String,
+/// [`VisitMut`](crate::visit::VisitMut) reaches all names of a tree. A name of at most 22 bytes
+/// needs no allocation.
+#[derive(Clone)]
+pub struct Ident(Spelling);
+
+/// How many bytes a name has at most that is kept without an allocation.
+const SHORT: usize = 22;
+
+/// How a name is spelled.
+#[derive(Clone)]
+enum Spelling {
+    /// The first bytes, as many as the size says, are a text; the others are 0.
+    Short { size: u8, bytes: [u8; SHORT] },
+    /// A text of more bytes.
+    Long(Box<str>),
 }
 
 impl Ident {
@@ -24,7 +33,7 @@ impl Ident {
     /// ```
     #[must_use]
     pub fn new(name: String) -> Self {
-        Ident { name }
+        Ident(Spelling::short(&name).unwrap_or_else(|| Spelling::Long(name.into())))
     }
 
     /// Returns how it is spelled.
@@ -36,7 +45,16 @@ impl Ident {
     /// ```
     #[must_use]
     pub fn name(&self) -> &str {
-        &self.name
+        std::str::from_utf8(self.bytes()).expect("the bytes of a text")
+    }
+
+    /// Returns the bytes of its name.
+    #[inline]
+    pub(crate) fn bytes(&self) -> &[u8] {
+        match &self.0 {
+            Spelling::Short { size, bytes } => &bytes[..usize::from(*size)],
+            Spelling::Long(name) => name.as_bytes(),
+        }
     }
 
     /// Spells it otherwise. Copies that were made before stay as they are.
@@ -50,7 +68,20 @@ impl Ident {
     /// assert_eq!((ident.name(), copy.name()), ("b", "a"));
     /// ```
     pub fn rename(&mut self, name: String) {
-        self.name = name;
+        *self = Ident::new(name);
+    }
+}
+
+impl Spelling {
+    /// Returns how a short name is spelled.
+    #[inline]
+    fn short(name: &str) -> Option<Self> {
+        let mut bytes = [0; SHORT];
+        bytes
+            .get_mut(..name.len())?
+            .copy_from_slice(name.as_bytes());
+        let size = name.len().try_into().ok()?;
+        Some(Spelling::Short { size, bytes })
     }
 }
 
@@ -61,24 +92,34 @@ impl From<String> for Ident {
 }
 
 impl From<&str> for Ident {
+    #[inline]
     fn from(name: &str) -> Self {
-        Ident::new(name.to_owned())
+        Ident(Spelling::short(name).unwrap_or_else(|| Spelling::Long(name.into())))
+    }
+}
+
+impl PartialEq for Ident {
+    fn eq(&self, other: &Self) -> bool {
+        self.bytes() == other.bytes()
+    }
+}
+
+impl Eq for Ident {}
+
+impl Hash for Ident {
+    fn hash<H: Hasher>(&self, state: &mut H) {
+        self.name().hash(state);
+    }
+}
+
+impl fmt::Debug for Ident {
+    fn fmt(&self, f: &mut fmt::Formatter<'_>) -> fmt::Result {
+        f.debug_tuple("Ident").field(&self.name()).finish()
     }
 }
 
 impl fmt::Display for Ident {
     fn fmt(&self, f: &mut fmt::Formatter<'_>) -> fmt::Result {
-        f.write_str(&self.name)
-    }
-}
-
-impl Written for Ident {
-    fn write<'t>(&'t self, out: &mut Writer<'t>) {
-        self.name.write(out);
-    }
-
-    fn read(from: &mut Reader<'_>) -> Result<Self, FormError> {
-        let name = Written::read(from)?;
-        Ok(Ident { name })
+        f.write_str(self.name())
     }
 }

@@ -60,7 +60,7 @@ impl Packed for Attribute {
 impl Packed for TypeConstraint {
     fn pack<'t>(&'t self, out: &mut Writer<'t>) {
         out.rule(TYPE_CONSTRAINT);
-        out.text(&self.ident.name);
+        out.ident(&self.ident);
         out.list((NOTHING, TYPES, PART), &self.variants, |out, ty| {
             ty.pack(out);
         });

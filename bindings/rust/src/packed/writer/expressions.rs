@@ -118,7 +118,7 @@ impl Packed for TypeExpression {
         match &self.template_args {
             None => {
                 out.rule(NAME);
-                out.text(&self.ident.name);
+                out.ident(&self.ident);
             }
             Some(arguments) => out.template(&self.ident, arguments),
         }
@@ -146,7 +146,7 @@ impl<'t> Writer<'t> {
     /// Writes a type with a template.
     fn template(&mut self, ident: &'t Ident, arguments: &'t [TemplateArg]) {
         self.rule(TEMPLATE);
-        self.text(&ident.name);
+        self.ident(ident);
         if self.open() {
             self.list((NOTHING, NODES, NODE), arguments, |out, argument| {
                 out.expression_node(&argument.expression);
@@ -210,7 +210,7 @@ impl<'t> Writer<'t> {
             Link::Component(component) => {
                 self.rule(component_rule_of(left));
                 self.span(left.span);
-                self.text(&component.component.name);
+                self.ident(&component.component);
             }
             Link::Element(element) => {
                 self.rule(INDEX);

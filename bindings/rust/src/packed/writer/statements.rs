@@ -67,7 +67,7 @@ statements! {
     ConstAssert = CONST_ASSERT true, self, out: out.expression_node(&self.expression);
     Declaration = DECLARATION true, self, out: {
         self.kind.pack(out);
-        out.text(&self.ident.name);
+        out.ident(&self.ident);
         out.optional(TYPED, &self.ty, |out, ty| ty.pack(out));
         out.optional_node(INITIALIZER, &self.initializer);
     };

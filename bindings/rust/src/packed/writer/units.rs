@@ -80,7 +80,7 @@ impl Packed for TypeAlias {
     fn pack<'t>(&'t self, out: &mut Writer<'t>) {
         out.rule(ALIAS);
         out.attribute_line(&self.attributes);
-        out.text(&self.ident.name);
+        out.ident(&self.ident);
         self.ty.pack(out);
     }
 }
@@ -89,7 +89,7 @@ impl Packed for Struct {
     fn pack<'t>(&'t self, out: &mut Writer<'t>) {
         out.rule(STRUCT);
         out.attribute_line(&self.attributes);
-        out.text(&self.ident.name);
+        out.ident(&self.ident);
         let rules = (EMPTY_END, MEMBERS, LAST_MEMBER);
         out.list(rules, &self.members, |out, member| {
             out.span(member.span);
@@ -102,7 +102,7 @@ impl Packed for StructMember {
     fn pack<'t>(&'t self, out: &mut Writer<'t>) {
         out.rule(MEMBER);
         out.attribute_line(&self.attributes);
-        out.text(&self.ident.name);
+        out.ident(&self.ident);
         self.ty.pack(out);
     }
 }
@@ -111,7 +111,7 @@ impl Packed for Function {
     fn pack<'t>(&'t self, out: &mut Writer<'t>) {
         out.rule(FUNCTION);
         out.attribute_line(&self.attributes);
-        out.text(&self.ident.name);
+        out.ident(&self.ident);
         let rules = (NOTHING, PARTS, PART);
         out.list(rules, &self.parameters, |out, it| it.pack(out));
         out.optional(RESULT, &self.return_type, |out, ty| {
@@ -126,7 +126,7 @@ impl Packed for FormalParameter {
     fn pack<'t>(&'t self, out: &mut Writer<'t>) {
         out.rule(MEMBER);
         out.attributes_before(&self.attributes);
-        out.text(&self.ident.name);
+        out.ident(&self.ident);
         self.ty.pack(out);
     }
 }
