@@ -2,7 +2,7 @@
 tools/tables/statement_readers.py."""
 from pathlib import Path
 
-from form_answers import HERE, answer, argument, counted, read
+from form_answers import HERE, answer, counted, read
 from form_taken import Enum, code_uses, told
 from node_table import TABLE, snake
 from plain_trees import CONSTRUCTED, OWN, RENAMED, coded, is_apart

@@ -93,9 +93,8 @@ WritesTree = WritesForm IsFormOf
 abbrev pub WritesPackedTree : ℕ → List ℕ → List ℕ → List ℕ → Answer → ℕ → Type 0
 WritesPackedTree = WritesForm IsPackedOf
 
--- the printed text of the node of a kind that a form describes; 1 only for bytes that are not the
--- form
--- of such a node
+-- the printed text of the node of a kind that a form describes; 1 only for bytes that are no form of
+-- a node of the kind that trees have
 pub record PrintsForm (what : ℕ) (form before buffer : List ℕ) (answer : Answer) (result : ℕ) : Type 0 where
   pub printed : result ≡ 0 → (text : List ℕ) × IsPrint (kind_of what) form text × Holds text buffer answer
   pub refused : result ≡ 1 → IsNoForm (kind_of what) form × RefusesForm before buffer answer

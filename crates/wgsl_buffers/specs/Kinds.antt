@@ -1,4 +1,5 @@
--- The kinds of nodes that are printed from their text forms, by their numbers.
+-- The kinds of nodes that are printed, by their numbers: their text forms, their packed forms, and
+-- their printed texts.
 use Rattle.std.specs.Prelude.{◌≡◌, ◌≢◌, ◌==◌, ℕ, List, if◌then◌else◌}
 use Rattle.wgsl_model.specs.Printed.Units.{print_unit, print_directive, print_global_declaration, print_member, print_parameter}
 use Rattle.wgsl_model.specs.Printed.Statements.{print_statement, print_if_clause, print_else_if_clause, print_else_clause, print_switch_clause, print_continuing}

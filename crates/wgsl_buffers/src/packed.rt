@@ -1,6 +1,6 @@
 //! Trees by their packed form, and nodes printed from it.
 
-ghost use Rattle.std.specs.Prelude.{◌≡◌, ◌≤◌, ◌<◌, MatchOption};
+ghost use Rattle.std.specs.Prelude.{◌≤◌, ◌<◌, MatchOption};
 ghost use Rattle.wgsl_buffers.specs.Trees.{declaration_tree, directive_tree, expression_tree, module_tree, statement_tree, tree_of, IsPackedTree};
 ghost use Rattle.wgsl_buffers.specs.Calls.{PrintsPacked, WritesPackedTree};
 

@@ -27,7 +27,8 @@ fn printed<T: FromForm + fmt::Display + Drop>(
     alloc: Global,
     form: &str,
 ) -> Result<String, FormError>
-    ensures printed { IfOk result (λ text. (node : T) × (form.now ≡ text_form.form (T.code (T.view node)))
+    ensures printed { IfOk result (λ text. (node : T)
+        × (form.now ≡ text_form.form (T.code (T.view node)))
         × IfSome (T.output node) (λ print. string_bytes text ≡ print)) }
     ensures refused { IfErr result (λ error. (error.kind ≡ reasons.OutOfMemory)
         ⊎ IsNoFormOf T.code form.now) }

@@ -7,7 +7,7 @@ use Rattle.wgsl_model.specs.Printed.Indentation.{after_line_ends}
 use Rattle.wgsl_writer.specs.Depth.{spaces}
 use Rattle.wgsl_model_packed.specs.Rules.{rules}
 
--- a number that is not negative: 8 bytes, the lowest first
+-- a number below 2^64: 8 bytes, the lowest first
 abbrev pub packed_number : ℕ → List ℕ
 packed_number n = to_le_bytes w64 n
 

@@ -1,4 +1,4 @@
-//! The print of a packed form, without a tree.
+//! The print of a packed form by the texts of its rules, without a tree.
 #![tactic(auto)]
 
 mod error;
@@ -16,7 +16,7 @@ use crate::printer::Printer;
 pub use error::PackedError;
 use std::alloc::Global;
 
-/// Returns what a packed form prints.
+/// Returns what the rules print of a packed form.
 pub fn print_packed(alloc: Global, form: &[u8]) -> Result<Vec<u8>, PackedError>
     ensures printed { IfOk result (λ bytes. Prints 0 (codes "$") form.now bytes.items []) }
     ensures taken { (text : List ℕ) → Prints 0 (codes "$") form.now text [] →

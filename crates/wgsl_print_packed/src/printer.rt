@@ -9,7 +9,7 @@ use crate::error::PackedError;
 use crate::reading::{after_span, split_text};
 use crate::rule::rule;
 use crate::writing;
-use std::alloc::{AllocError, Global};
+use std::alloc::Global;
 
 /// A print of a packed form, up to a place in the text of a rule.
 #[derive(Drop)]

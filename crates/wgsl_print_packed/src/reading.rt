@@ -1,6 +1,6 @@
 //! Texts and spans at the front of a packed form.
 
-ghost use Rattle.std.specs.Prelude.{ℕ, List, ◌≡◌, ◌+◌, ◌++◌, ◌<◌, ◌^◌, ◌≤◌, length, MatchResult, OnOk, IfOk};
+ghost use Rattle.std.specs.Prelude.{ℕ, List, ◌≡◌, ◌+◌, ◌++◌, ◌<◌, ◌^◌, ◌≤◌, length, MatchResult, IfOk};
 ghost use Rattle.grammar.specs.Tokens.{Span};
 ghost use Rattle.wgsl_model_packed.specs.Printing.{packed_number, packed_span, packed_text};
 

@@ -1,6 +1,6 @@
 //! Line breaks and texts at a depth.
 
-ghost use Rattle.std.specs.Prelude.{◌≡◌, ◌++◌, ◌∷◌, ◌+◌, length, take, codes, OnOk, IfOk, MatchOption};
+ghost use Rattle.std.specs.Prelude.{◌≡◌, ◌++◌, ◌∷◌, ◌+◌, length, OnOk, MatchOption};
 ghost use Rattle.wgsl_model.specs.Printed.Indentation.{after_line_ends};
 ghost use Rattle.wgsl_writer.specs.Depth.{spaces};
 ghost use Rattle.wgsl_writer.specs.LineEnds.{IsLineEnd, IsOneLine};

@@ -1,6 +1,6 @@
 //! Expressions, with a loop for the operands, components and indices on their left sides.
 
-ghost use Rattle.std.specs.Prelude.{◌≡◌, ◌≢◌, ◌+◌, ◌<◌, ◌≤◌, ◌++◌, ℕ, List, IfSome, IsNone, OnOk};
+ghost use Rattle.std.specs.Prelude.{◌≡◌, ◌+◌, ◌<◌, ◌≤◌, ◌++◌, ℕ, List, IfSome, IsNone, OnOk};
 ghost use Rattle.wgsl_model.specs.Printed.Expressions.{expression_in};
 ghost use Rattle.wgsl_model_packed.specs.Expressions.{leftmost};
 ghost use Rattle.wgsl_tree_expression.specs.Chains.{below, left_of, steps_in};
