@@ -2,22 +2,8 @@
    first check that fails, or 0. */
 #include <string.h>
 
-#include "library_forms.h"
+#include "library_checks.h"
 #include "wgsl.h"
-
-#define CHECK(holds) \
-    do {             \
-        if (!(holds)) return __LINE__ % 256 + (__LINE__ % 256 == 0); \
-    } while (0)
-
-static struct wgsl_answer answer;
-
-static int is_answer(size_t size, size_t start, size_t end, size_t kind, size_t expected) {
-    return answer.size == size && answer.start == start && answer.end == end && answer.kind == kind
-        && answer.expected == expected;
-}
-
-static int is_size(size_t size) { return is_answer(size, 0, 0, 0, 0); }
 
 /* The calls that read a text and write bytes. */
 typedef uint32_t text_call(const char *, size_t, char *, size_t, struct wgsl_answer *);
@@ -55,12 +41,6 @@ static const struct {
     {wgsl_format, 'u'},    {tidy, 'u'}, {wgsl_check, 'u'}, {snippet, 'e'}, {snippet_in_file, 'f'},
     {wgsl_recognize, 'u'}, {tree, 'u'}, {minify, 'u'},
 };
-
-/* Returns whether a buffer is as it was filled: with one byte again and again. */
-static int is_filled(const char *buffer, size_t size) {
-    while (size > 0 && buffer[size - 1] == '#') size--;
-    return size == 0;
-}
 
 /* Checks what each of them returns for arguments that are not memory, and for bytes that are not
  * text. */
@@ -394,127 +374,6 @@ static int check_lists(void) {
     return 0;
 }
 
-/* A tree is written by its form, and no tree has another number. */
-static int check_trees(void) {
-    static const char form[] =
-        "{\"NamedComponent\":{\"component\":\"b\",\"base\":{\"span\":[0,1],\"node\":"
-        "{\"TypeOrIdentifier\":{\"ident\":\"a\",\"template_args\":null}}}}}";
-    size_t size = sizeof form - 1;
-    char buffer[256];
-    CHECK(wgsl_tree(WGSL_STATEMENT, ";", 1, buffer, sizeof buffer, &answer) == WGSL_DONE);
-    CHECK(answer.size == 6 && memcmp(buffer, "\"Void\"", 6) == 0);
-    CHECK(wgsl_tree(WGSL_EXPRESSION, "a.b", 3, buffer, sizeof buffer, &answer) == WGSL_DONE);
-    CHECK(is_size(size) && memcmp(buffer, form, size) == 0);
-    memset(buffer, '#', sizeof buffer);
-    CHECK(wgsl_tree(5, ";", 1, buffer, sizeof buffer, &answer) == WGSL_UNKNOWN && is_size(0));
-    CHECK(is_filled(buffer, sizeof buffer));
-    CHECK(wgsl_tree(5, "a.b", 3, NULL, 0, &answer) == WGSL_UNKNOWN && is_size(0));
-    return 0;
-}
-
-static uint32_t print(uint32_t kind, const char *form, char *buffer, size_t buffer_size) {
-    return wgsl_print(kind, form, strlen(form), buffer, buffer_size, &answer);
-}
-
-/* A form is printed, whatever its kind. */
-static int check_prints(void) {
-    const struct printed_form *it = printed_forms;
-    for (; it < printed_forms + sizeof printed_forms / sizeof *printed_forms; it++) {
-        size_t size = strlen(it->text);
-        char buffer[64];
-        memset(buffer, '#', sizeof buffer);
-        CHECK(print(it->kind, it->form, NULL, 0) == WGSL_TOO_SMALL && is_size(size));
-        CHECK(print(it->kind, it->form, buffer, size - 1) == WGSL_TOO_SMALL && is_size(size));
-        CHECK(is_filled(buffer, sizeof buffer));
-        CHECK(print(it->kind, it->form, buffer, sizeof buffer) == WGSL_DONE && is_size(size));
-        CHECK(memcmp(buffer, it->text, size) == 0);
-        CHECK(is_filled(buffer + size, sizeof buffer - size));
-    }
-    return 0;
-}
-
-/* Another text is rejected, with the place where that shows and a message if it fits. */
-static int check_refused_forms(void) {
-    const struct refused_form *it = refused_forms;
-    for (; it < refused_forms + sizeof refused_forms / sizeof *refused_forms; it++) {
-        size_t size = strlen(it->message) + 1;
-        char buffer[64];
-        memset(buffer, '#', sizeof buffer);
-        CHECK(print(it->kind, it->form, buffer, size - 1) == WGSL_REFUSED);
-        CHECK(is_answer(size, it->place, it->place, WGSL_NOT_A_FORM, 0));
-        CHECK(is_filled(buffer, sizeof buffer));
-        CHECK(print(it->kind, it->form, buffer, sizeof buffer) == WGSL_REFUSED);
-        CHECK(is_answer(size, it->place, it->place, WGSL_NOT_A_FORM, 0));
-        CHECK(memcmp(buffer, it->message, size) == 0);
-        CHECK(is_filled(buffer + size, sizeof buffer - size));
-    }
-    return 0;
-}
-
-/* No kind has another number, and what is not text or not memory is reported first. */
-static int check_print_arguments(void) {
-    char buffer[64];
-    memset(buffer, '#', sizeof buffer);
-    CHECK(print(WGSL_TYPE_CONSTRAINT + 1, "\"Void\"", buffer, sizeof buffer) == WGSL_UNKNOWN);
-    CHECK(is_size(0) && print(UINT32_MAX, "", buffer, sizeof buffer) == WGSL_UNKNOWN && is_size(0));
-    CHECK(print(WGSL_STATEMENT, "\"\xff", buffer, sizeof buffer) == WGSL_NOT_UTF8);
-    CHECK(is_answer(0, 1, 1, 0, 0));
-    CHECK(print(UINT32_MAX, "\xff", buffer, sizeof buffer) == WGSL_NOT_UTF8 && is_size(0));
-    CHECK(wgsl_print(WGSL_STATEMENT, NULL, 1, buffer, 1, &answer) == WGSL_BAD_ARGUMENT);
-    CHECK(wgsl_print(WGSL_STATEMENT, "", SIZE_MAX, buffer, 1, &answer) == WGSL_BAD_ARGUMENT);
-    CHECK(wgsl_print(WGSL_STATEMENT, "", 0, NULL, 1, &answer) == WGSL_BAD_ARGUMENT);
-    CHECK(wgsl_print(WGSL_STATEMENT, "", 0, buffer, SIZE_MAX, &answer) == WGSL_BAD_ARGUMENT);
-    CHECK(wgsl_print(WGSL_STATEMENT, "", 0, buffer, 1, NULL) == WGSL_BAD_ARGUMENT);
-    CHECK(wgsl_print(WGSL_STATEMENT, NULL, 0, NULL, 0, &answer) == WGSL_REFUSED);
-    CHECK(answer.kind == WGSL_NOT_A_FORM && answer.size > 0 && is_filled(buffer, sizeof buffer));
-    return 0;
-}
-
-static uint32_t pack(uint32_t kind, const char *text, uint8_t *form, size_t form_size) {
-    return wgsl_c_packed_tree(kind, (const uint8_t *)text, strlen(text), form, form_size, &answer);
-}
-
-static uint32_t print_packed(const uint8_t *form, size_t size, uint8_t *buffer,
-                             size_t buffer_size) {
-    return wgsl_c_print_packed(form, size, buffer, buffer_size, &answer);
-}
-
-/* A tree has the packed form that its definition gives it, which is printed as the tree is; other
- * bytes are rejected. */
-static int check_packed(void) {
-    /* a chain, a name, a component with the span of what is before it, and the end */
-    static const uint8_t named[] = {
-        14, 12, 1, 0, 0, 0, 0, 0, 0, 0, 'a', 15, 0, 0, 0, 0, 0, 0, 0, 0, 1,
-        0,  0,  0, 0, 0, 0, 0, 1, 0, 0, 0,   0,  0, 0, 0, 'b', 19,
-    };
-    static const char module[] = "fn f(){if a{b=-c;}}";
-    static const char text[] = "fn f() {\n    if a {\n        b = -c;\n    }\n}\n";
-    static uint8_t form[1024];
-    uint8_t buffer[64];
-    size_t size;
-    CHECK(pack(WGSL_EXPRESSION, "a.b", form, sizeof form) == WGSL_DONE && is_size(sizeof named));
-    CHECK(memcmp(form, named, sizeof named) == 0);
-    CHECK(pack(WGSL_EXPRESSION, "a.b", form, sizeof named - 1) == WGSL_TOO_SMALL);
-    CHECK(is_size(sizeof named));
-    CHECK(print_packed(named, sizeof named, buffer, 3) == WGSL_DONE && is_size(3));
-    CHECK(memcmp(buffer, "a.b", 3) == 0);
-    CHECK(print_packed(named, sizeof named, buffer, 2) == WGSL_TOO_SMALL && is_size(3));
-    for (size = 0; size < sizeof named; size++) {
-        CHECK(print_packed(named, size, buffer, sizeof buffer) == WGSL_REFUSED);
-        CHECK(is_answer(0, 0, 0, WGSL_NOT_A_FORM, 0));
-    }
-    CHECK(pack(WGSL_UNIT, module, form, sizeof form) == WGSL_DONE);
-    size = answer.size;
-    CHECK(print_packed(form, size, buffer, sizeof buffer) == WGSL_DONE);
-    CHECK(is_size(strlen(text)) && memcmp(buffer, text, strlen(text)) == 0);
-    CHECK(print_packed(form, size + 1, buffer, sizeof buffer) == WGSL_REFUSED);
-    CHECK(pack(WGSL_UNIT, "fn f(", form, sizeof form) == WGSL_REFUSED);
-    CHECK(answer.kind == WGSL_UNEXPECTED_END && answer.start == 5);
-    CHECK(pack(WGSL_ATTRIBUTE_NODE, "@a", form, sizeof form) == WGSL_UNKNOWN && is_size(0));
-    CHECK(pack(WGSL_UNIT, "\xff", form, sizeof form) == WGSL_NOT_UTF8);
-    return 0;
-}
-
 static int is_position(const char *text, size_t offset, size_t line, size_t column) {
     struct wgsl_position found = wgsl_position_of(text, strlen(text), offset);
     return found.line == line && found.column == column;
@@ -555,12 +414,10 @@ static int check_message(void) {
 }
 
 static int (*const checks[])(void) = {
-    check_text_calls, check_other_calls,   check_no_bytes,        check_buffers,
-    check_layouts,    check_faults,        check_snippets,        check_names_of_files,
-    check_tokens,     check_comments,      check_lists,           check_trees,
-    check_prints,     check_refused_forms, check_print_arguments, check_positions,
-    check_names,      check_message,       check_minified,        check_minify_arguments,
-    check_packed,
+    check_text_calls, check_other_calls, check_no_bytes,       check_buffers,
+    check_layouts,    check_faults,      check_snippets,       check_names_of_files,
+    check_tokens,     check_comments,    check_lists,          check_positions,
+    check_names,      check_message,     check_minified,       check_minify_arguments,
 };
 
 int main(void) {

@@ -61,7 +61,7 @@ impl Reader<'_> {
                 }))
             }
             UNARY | UNARY_APART => {
-                let operator = unary_operator(self.bytes()?)?;
+                let operator = self.word()?;
                 let operand = self.expression_node()?;
                 Box::new(Expression::Unary(UnaryExpression { operator, operand }))
             }
@@ -123,7 +123,7 @@ impl Reader<'_> {
                 Some(Box::new(Expression::Indexing(element)))
             }
             BINARY => {
-                let operator = binary_operator(self.bytes()?)?;
+                let operator = self.word()?;
                 let right = self.expression_node()?;
                 Some(Box::new(Expression::Binary(BinaryExpression {
                     operator,
@@ -205,43 +205,4 @@ fn integer(text: &[u8]) -> Option<i64> {
 #[cold]
 fn other_integer(text: &[u8]) -> Option<i64> {
     std::str::from_utf8(text).ok()?.parse().ok()
-}
-
-/// The operator before an operand that is written so.
-#[inline]
-fn unary_operator(text: &[u8]) -> Option<UnaryOperator> {
-    Some(match text {
-        b"!" => UnaryOperator::LogicalNegation,
-        b"-" => UnaryOperator::Negation,
-        b"~" => UnaryOperator::BitwiseComplement,
-        b"&" => UnaryOperator::AddressOf,
-        b"*" => UnaryOperator::Indirection,
-        _ => return None,
-    })
-}
-
-/// The operator between operands that is written so.
-#[inline]
-fn binary_operator(text: &[u8]) -> Option<BinaryOperator> {
-    Some(match text {
-        b"||" => BinaryOperator::ShortCircuitOr,
-        b"&&" => BinaryOperator::ShortCircuitAnd,
-        b"+" => BinaryOperator::Addition,
-        b"-" => BinaryOperator::Subtraction,
-        b"*" => BinaryOperator::Multiplication,
-        b"/" => BinaryOperator::Division,
-        b"%" => BinaryOperator::Remainder,
-        b"==" => BinaryOperator::Equality,
-        b"!=" => BinaryOperator::Inequality,
-        b"<" => BinaryOperator::LessThan,
-        b"<=" => BinaryOperator::LessThanEqual,
-        b">" => BinaryOperator::GreaterThan,
-        b">=" => BinaryOperator::GreaterThanEqual,
-        b"|" => BinaryOperator::BitwiseOr,
-        b"&" => BinaryOperator::BitwiseAnd,
-        b"^" => BinaryOperator::BitwiseXor,
-        b"<<" => BinaryOperator::ShiftLeft,
-        b">>" => BinaryOperator::ShiftRight,
-        _ => return None,
-    })
 }

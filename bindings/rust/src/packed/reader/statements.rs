@@ -29,7 +29,7 @@ impl Reader<'_> {
             }
             ASSIGNMENT => {
                 let lhs = self.expression_node()?;
-                let operator = assignment_operator(self.bytes()?)?;
+                let operator = self.word()?;
                 let rhs = self.expression_node()?;
                 Box::new(Statement::Assignment(AssignmentStatement {
                     attributes,
@@ -309,23 +309,4 @@ impl Reader<'_> {
         let statement = self.statement_after(rule)?;
         Some(Some(Spanned::new_boxed(statement, span)))
     }
-}
-
-/// The operator of an assignment that is written so.
-#[inline]
-fn assignment_operator(text: &[u8]) -> Option<AssignmentOperator> {
-    Some(match text {
-        b"=" => AssignmentOperator::Equal,
-        b"+=" => AssignmentOperator::PlusEqual,
-        b"-=" => AssignmentOperator::MinusEqual,
-        b"*=" => AssignmentOperator::TimesEqual,
-        b"/=" => AssignmentOperator::DivisionEqual,
-        b"%=" => AssignmentOperator::ModuloEqual,
-        b"&=" => AssignmentOperator::AndEqual,
-        b"|=" => AssignmentOperator::OrEqual,
-        b"^=" => AssignmentOperator::XorEqual,
-        b">>=" => AssignmentOperator::ShiftRightAssign,
-        b"<<=" => AssignmentOperator::ShiftLeftAssign,
-        _ => return None,
-    })
 }
