@@ -1,29 +1,37 @@
 #!/usr/bin/env python3
-"""Writes the enum of attributes with its print, and what makes an attribute of its name and its
-arguments.
+"""Writes the enum of attributes with its print, what makes an attribute of its name and its
+arguments, and its packed form.
 
 Run it at the top of the repository, and `rt fmt` in the crates that it writes after it:
 
     tools/tables/attribute_code.py
 
 It reads crates/wgsl_model/nodes, in which the example of a variant begins with the name of the
-attribute. What prints an attribute with a struct of its own is in the file of the struct, and what
-makes one of other arguments than one expression is in wgsl_read_attribute/src/checks.rt.
+attribute. What prints an attribute with a struct of its own is in the file of the struct, what
+makes one of other arguments than one expression is in wgsl_read_attribute/src/checks.rt, and what
+packs one with a struct is in wgsl_tree_packed/src/attribute.rt.
 """
 import re
 from pathlib import Path
 
 from node_table import TABLE, Table, snake, source
 from tree_nodes import places, use_lines
+from tree_words import stem
 
 ENUM = Path("crates/wgsl_tree_attribute/src/attribute.rt")
 CHECKS = Path("crates/wgsl_read_attribute/src/checks.rt")
 MADE = CHECKS.with_name("attribute_nodes.rt")
+PARTS = Path("crates/wgsl_tree_packed/src/attribute.rt")
+PACKED = PARTS.with_name("attribute_nodes.rt")
 WRITTEN = f"//! Written by tools/tables/attribute_code.py from {TABLE}:"
 # the attribute that has any other name
 CUSTOM = "Custom"
-# the functions that write a struct, and those that make a variant, some with an allocator
+# the rule before the packed form of a struct that has another one by itself
+RULES = {"TypeConstraint": "TYPE_ATTRIBUTE"}
+# the functions that write a struct, those that pack one, and those that make a variant, some with
+# an allocator
 WRITERS = re.compile(r"fn (write_\w+)<.*?>\(\s*\w+: &(\w+),")
+PACKERS = re.compile(r"fn (pack_\w+)\(\s*node: &(\w+),")
 MAKERS = re.compile(r"^pub\(crate\) fn (\w+)\(\s*(alloc: Global,)?\s*name: &'static str,", re.M)
 
 
@@ -37,6 +45,7 @@ class Attributes:
         self.words = table.attribute_words()
         self.writers = {held: name for name, held in WRITERS.findall(source("attribute"))}
         self.makers = dict(MAKERS.findall(CHECKS.read_text()))
+        self.packers = {held: name for name, held in PACKERS.findall(PARTS.read_text())}
 
     def held(self, held):
         """The type of what a variant holds."""
@@ -64,6 +73,21 @@ class Attributes:
         if held:
             return f'{front} Ok(Attribute::{name}(only_argument("{word}", arguments)?)),'
         return f'{front} no_arguments("{word}", arguments, Attribute::{name}),'
+
+    def packed(self, name, held):
+        """The arm that packs a variant."""
+        front, word = f"        Attribute::{name}", self.words[name]
+        if not held:
+            return f'{front} => pack_word(WITHOUT_ARGUMENT, "{word}", out),'
+        if held in RULES:
+            call = f"{self.packers[held]}(inner, out)"
+            return f"{front}(inner) => {{ pack_rule({RULES[held]}, out)?; {call} }}"
+        if held in self.packers:
+            return f"{front}(inner) => {self.packers[held]}(inner, out),"
+        if self.by_name[held].form == "words":
+            call = f"{stem(self.by_name[held])}_word(*value)"
+            return f"{front}(value) => pack_word({snake(name).upper()}, {call}, out),"
+        return f'{front}(argument) => pack_with_argument("{word}", argument, out),'
 
     def uses(self):
         """The lines that import what the enum and its print name."""
@@ -105,6 +129,28 @@ class Attributes:
             "            name: name.into_string(alloc)?,", "            arguments,",
             "        })),", "    }", "}", ""])
 
+    def packing(self):
+        """The file of what packs attributes."""
+        arms = [self.packed(*part) for part in self.kind.parts]
+        used = "\n".join(arms)
+        uses = use_lines({
+            "crate::attribute": ["pack_with_argument", *self.packers.values()],
+            "crate::rules": set(re.findall(r"\b[A-Z_]{2,}\b", used)),
+            "crate::text": ["pack_rule", "pack_word"],
+            "crate::words": set(re.findall(r"\w+_word(?=\(\*)", used)),
+            "std::alloc": ["AllocError"], "wgsl_tree_attribute": ["Attribute"]})
+        return "\n".join([
+            f"{WRITTEN} packed attributes.", "",
+            "ghost use Rattle.std.specs.Prelude.{◌≡◌, ◌++◌, OnOk};",
+            "ghost use Rattle.wgsl_model_packed.specs.Attributes.{packed_attribute};",
+            "ghost use Rattle.wgsl_tree_attribute.specs.View.{attribute_view};", "", *uses, "",
+            "/// Writes the packed form of an attribute.",
+            "pub fn pack_attribute(attribute: &Attribute, out: &mut Vec<u8>)",
+            "    -> Result<(), AllocError>",
+            "    ensures { OnOk result (out.new.items",
+            "        ≡ out.old.items ++ packed_attribute (attribute_view attribute.now)) }",
+            "{", "    match attribute {", *arms, "    }", "}", ""])
+
 
 def head(makers):
     """What is before the body of the function that makes attributes."""
@@ -139,6 +185,7 @@ def main():
     attributes = Attributes()
     ENUM.write_text(attributes.enum())
     MADE.write_text(attributes.making())
+    PACKED.write_text(attributes.packing())
 
 
 if __name__ == "__main__":

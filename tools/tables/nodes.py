@@ -125,6 +125,17 @@ def attributes(table):
     return "\n".join(lines)
 
 
+def named_attributes(table):
+    """The attributes with an expression, and those that are a name, for a macro."""
+    words = table.attribute_words()
+    lines = []
+    for group, wanted in [("with_argument", "Expression"), ("without_argument", "")]:
+        lines += [f"            {group}:",
+                  *(f'                b"{words[name]}" => {name},'
+                    for name, held in table.by_name["Attribute"].parts if held == wanted)]
+    return "\n".join(lines)
+
+
 def filled(indent, head, names):
     """A list of names after a head, in lines of less than 100 columns."""
     first, others = " " * indent, " " * (indent + 4)
@@ -200,6 +211,22 @@ def write_list(path, what, *macros):
     (RUST / f"{path}.rs").write_text(f"//! {what}, {WRITTEN}\n\nuse super::*;\n{calls}")
 
 
+def write_packed(table):
+    """A macro of the Rust crate that gives another one the attributes by their names."""
+    (RUST / "packed/node_attributes.rs").write_text(f"""\
+//! The attributes by their names, {WRITTEN}
+
+/// Gives a macro the attributes with an expression, and those that are a name.
+macro_rules! named_attributes {{
+    ($given:ident) => {{
+        $given! {{
+{named_attributes(table)}
+        }}
+    }};
+}}
+""")
+
+
 def write_rust(table):
     """The types of the Rust crate, and its lists of nodes."""
     structs = declared(table, "struct", field_doc, table.field)
@@ -260,6 +287,7 @@ def main():
     fill(DOCUMENT, f"<!-- The lists are {WRITTEN} -->", document(table),
          "<!-- The end of the lists. -->")
     write_rust(table)
+    write_packed(table)
     write_text(table)
     write_variants(table)
 

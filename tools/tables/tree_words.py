@@ -1,21 +1,28 @@
 #!/usr/bin/env python3
 """Writes the enums of words of wgsl_tree_words, with the words that they are read from and printed
-as, and what they are as plain data.
+as, what they are as plain data, and the words of wgsl_tree_packed.
 
-Run it at the top of the repository, and `rt fmt` in crates/wgsl_tree_words after it:
+Run it at the top of the repository, and `rt fmt` in the crates that it writes after it:
 
     tools/tables/tree_words.py
 
 It reads crates/wgsl_model/nodes. The prover checks that the words are those of the definitions.
 """
+import re
 from pathlib import Path
 
 from node_table import TABLE, Table, snake
+from tree_codes import plain_doc
 
 CRATE = Path("crates/wgsl_tree_words")
 MODULE = "words_nodes"
+PACKED = Path("crates/wgsl_tree_packed/src/words.rt")
 # enums whose definitions have shorter names
 SHORT = {"DiagnosticSeverity": "severity"}
+# what the operators of an enum are said to be where one is packed
+OPERATORS = {"UnaryOperator": "an operator before its operand",
+             "BinaryOperator": "an operator between two operands",
+             "AssignmentOperator": "an operator that assigns"}
 
 
 def stem(kind):
@@ -33,6 +40,11 @@ def enum(kind):
     variants = [f"    {name}," for name, _ in kind.parts]
     return [f"/// {kind.doc}", "#[derive(Clone, Copy, PartialEq, Eq, Debug)]",
             f"pub enum {kind.name} {{", *variants, "}", ""]
+
+
+def texts_file(kind):
+    """The file that passes on the texts of an enum."""
+    return "Printed.Operators" if is_operator(kind) else "Trees.NamedValues"
 
 
 def from_str(kind):
@@ -70,8 +82,7 @@ def code(kinds):
              "ghost use Rattle.std.specs.Prelude.{◌≡◌, Some, MatchResult};",
              "ghost use Rattle.wgsl_model.specs.Trees.NamedValues as plain;"]
     for kind in kinds:
-        file = "Printed.Operators" if is_operator(kind) else "Trees.NamedValues"
-        lines += [f"ghost use Rattle.wgsl_model.specs.{file}.{{{stem(kind)}_text}};",
+        lines += [f"ghost use Rattle.wgsl_model.specs.{texts_file(kind)}.{{{stem(kind)}_text}};",
                   f"ghost use Rattle.wgsl_tree_words.specs.ViewNodes.{{{stem(kind)}_view}};"]
     lines += ["", "use std::fmt;", ""]
     for kind in kinds:
@@ -95,10 +106,42 @@ def views(kinds):
         "use Rattle.wgsl_model.specs.Trees.Operators as plain_operator", *uses, *lines, ""])
 
 
+def packed_uses(kinds):
+    """The lines that import what the words of packed forms name."""
+    found = {}
+    for kind in kinds:
+        found.setdefault(f"wgsl_model.specs.{texts_file(kind)}", []).append(f"{stem(kind)}_text")
+    found["wgsl_tree_words.specs.View"] = [f"{stem(kind)}_view" for kind in kinds]
+    return ["ghost use Rattle.std.specs.Prelude.{◌≡◌};",
+            *(f"ghost use Rattle.{file}.{{{', '.join(sorted(names))}}};"
+              for file, names in sorted(found.items())), "",
+            f"use wgsl_tree_words::{{{', '.join(sorted(kind.name for kind in kinds))}}};", ""]
+
+
+def packed_word(kind):
+    """What returns the word or the text of a value."""
+    said = OPERATORS.get(kind.name) or re.split("[:,]", plain_doc(kind.doc))[0]
+    what = "text" if is_operator(kind) else "word"
+    words = [f'        {kind.name}::{name} => "{word}",' for name, word in kind.parts]
+    return [f"/// Returns the {what} of {said}.",
+            f"pub fn {stem(kind)}_word(value: {kind.name}) -> &'static str",
+            f"    ensures {{ result.now ≡ {stem(kind)}_text ({stem(kind)}_view value) }}",
+            "{", "    match value {", *words, "    }", "}", ""]
+
+
+def packed(kinds):
+    """The file of the words of packed forms: of named values, then of operators."""
+    return "\n".join([
+        f"//! Written by tools/tables/tree_words.py from {TABLE}: words, texts of operators.",
+        "", *packed_uses(kinds),
+        *(line for kind in sorted(kinds, key=is_operator) for line in packed_word(kind))])
+
+
 def main():
     kinds = Table().of_form("words")
     (CRATE / f"src/{MODULE}.rt").write_text(code(kinds))
     (CRATE / "specs/ViewNodes.antt").write_text(views(kinds))
+    PACKED.write_text(packed(kinds))
 
 
 if __name__ == "__main__":

@@ -1,6 +1,9 @@
 //! The packed form of trees, which docs/TREE.md of the repository describes: bytes by which trees
 //! come from the library, and go to it to be printed.
 
+#[macro_use]
+mod node_attributes;
+
 #[cfg(test)]
 mod machine;
 #[cfg(test)]

@@ -13,21 +13,20 @@ ghost use Rattle.wgsl_tree_attribute.specs.View.{attribute_view, attributes_view
 ghost use Rattle.wgsl_tree_expression.specs.View.{expression_node_view};
 ghost use Rattle.wgsl_tree_words.specs.View.{interpolation_sampling_view};
 
+use crate::attribute_nodes::pack_attribute;
 use crate::expression::pack_expression_node;
 use crate::rules::{
-    ARGUMENTS, ATTRIBUTES, ATTRIBUTES_LINE, ATTRIBUTES_SPACE, BUILTIN, CUSTOM, DIAGNOSTIC,
-    FURTHER_NODE, FURTHER_WORD, INTERPOLATE, NODE, NODES, NOTHING, PART, TYPE_ATTRIBUTE,
-    TYPE_CONSTRAINT, TYPES, WITH_ARGUMENT, WITHOUT_ARGUMENT, WORKGROUP_SIZE,
+    ARGUMENTS, ATTRIBUTES, ATTRIBUTES_LINE, ATTRIBUTES_SPACE, CUSTOM, DIAGNOSTIC, FURTHER_NODE,
+    FURTHER_WORD, INTERPOLATE, NODE, NODES, NOTHING, PART, TYPE_CONSTRAINT, TYPES, WITH_ARGUMENT,
+    WORKGROUP_SIZE,
 };
 use crate::text::{pack_rule, pack_span, pack_text, pack_word};
 use crate::traits::{Pack, pack_list, pack_optional};
-use crate::words::{
-    builtin_value_word, interpolation_sampling_word, interpolation_type_word, severity_word,
-};
+use crate::words::{interpolation_sampling_word, interpolation_type_word, severity_word};
 use std::alloc::AllocError;
 use wgsl_tree_attribute::{
-    Attribute, AttributeNode, Attributes, CustomAttribute, DiagnosticAttribute,
-    InterpolateAttribute, TypeConstraint, WorkgroupSizeAttribute,
+    AttributeNode, Attributes, CustomAttribute, DiagnosticAttribute, InterpolateAttribute,
+    TypeConstraint, WorkgroupSizeAttribute,
 };
 use wgsl_tree_expression::ExpressionNode;
 use wgsl_tree_words::InterpolationSampling;
@@ -86,41 +85,8 @@ impl Pack for InterpolationSampling {
     }
 }
 
-fn pack_attribute(attribute: &Attribute, out: &mut Vec<u8>) -> Result<(), AllocError>
-    ensures { OnOk result (out.new.items
-        ≡ out.old.items ++ packed_attribute (attribute_view attribute.now)) }
-{
-    match attribute {
-        Attribute::Align(argument) => pack_with_argument("align", argument, out),
-        Attribute::Binding(argument) => pack_with_argument("binding", argument, out),
-        Attribute::BlendSrc(argument) => pack_with_argument("blend_src", argument, out),
-        Attribute::Group(argument) => pack_with_argument("group", argument, out),
-        Attribute::Id(argument) => pack_with_argument("id", argument, out),
-        Attribute::Location(argument) => pack_with_argument("location", argument, out),
-        Attribute::Size(argument) => pack_with_argument("size", argument, out),
-        Attribute::If(argument) => pack_with_argument("if", argument, out),
-        Attribute::Elif(argument) => pack_with_argument("elif", argument, out),
-        Attribute::Builtin(value) => pack_word(BUILTIN, builtin_value_word(*value), out),
-        Attribute::Const => pack_word(WITHOUT_ARGUMENT, "const", out),
-        Attribute::Invariant => pack_word(WITHOUT_ARGUMENT, "invariant", out),
-        Attribute::MustUse => pack_word(WITHOUT_ARGUMENT, "must_use", out),
-        Attribute::Vertex => pack_word(WITHOUT_ARGUMENT, "vertex", out),
-        Attribute::Fragment => pack_word(WITHOUT_ARGUMENT, "fragment", out),
-        Attribute::Compute => pack_word(WITHOUT_ARGUMENT, "compute", out),
-        Attribute::Else => pack_word(WITHOUT_ARGUMENT, "else", out),
-        Attribute::Diagnostic(inner) => pack_diagnostic(inner, out),
-        Attribute::Interpolate(inner) => pack_interpolate(inner, out),
-        Attribute::WorkgroupSize(inner) => pack_workgroup_size(inner, out),
-        Attribute::TypeConstraint(inner) => {
-            pack_rule(TYPE_ATTRIBUTE, out)?;
-            pack_type_constraint(inner, out)
-        }
-        Attribute::Custom(inner) => pack_custom(inner, out),
-    }
-}
-
 /// Writes an attribute with an expression, by its name.
-fn pack_with_argument(
+pub fn pack_with_argument(
     name: &str,
     argument: &ExpressionNode,
     out: &mut Vec<u8>,
@@ -132,7 +98,8 @@ fn pack_with_argument(
     pack_expression_node(argument, out)
 }
 
-fn pack_diagnostic(node: &DiagnosticAttribute, out: &mut Vec<u8>) -> Result<(), AllocError>
+/// Writes a `@diagnostic`.
+pub fn pack_diagnostic(node: &DiagnosticAttribute, out: &mut Vec<u8>) -> Result<(), AllocError>
     ensures { OnOk result (out.new.items
         ≡ out.old.items ++ packed_attribute (plain.diagnostic (diagnostic_view node.now))) }
 {
@@ -140,7 +107,8 @@ fn pack_diagnostic(node: &DiagnosticAttribute, out: &mut Vec<u8>) -> Result<(), 
     pack_text(node.rule.as_str(), out)
 }
 
-fn pack_interpolate(node: &InterpolateAttribute, out: &mut Vec<u8>) -> Result<(), AllocError>
+/// Writes an `@interpolate`.
+pub fn pack_interpolate(node: &InterpolateAttribute, out: &mut Vec<u8>) -> Result<(), AllocError>
     ensures { OnOk result (out.new.items
         ≡ out.old.items ++ packed_attribute (plain.interpolate (interpolate_view node.now))) }
 {
@@ -148,7 +116,11 @@ fn pack_interpolate(node: &InterpolateAttribute, out: &mut Vec<u8>) -> Result<()
     pack_optional(FURTHER_WORD, &node.sampling, out)
 }
 
-fn pack_workgroup_size(node: &WorkgroupSizeAttribute, out: &mut Vec<u8>) -> Result<(), AllocError>
+/// Writes a `@workgroup_size`.
+pub fn pack_workgroup_size(
+    node: &WorkgroupSizeAttribute,
+    out: &mut Vec<u8>,
+) -> Result<(), AllocError>
     ensures { OnOk result (out.new.items
         ≡ out.old.items ++ packed_attribute (plain.workgroup_size (workgroup_size_view node.now))) }
 {
@@ -158,7 +130,8 @@ fn pack_workgroup_size(node: &WorkgroupSizeAttribute, out: &mut Vec<u8>) -> Resu
     pack_optional(FURTHER_NODE, &node.z, out)
 }
 
-fn pack_type_constraint(node: &TypeConstraint, out: &mut Vec<u8>) -> Result<(), AllocError>
+/// Writes a name, and the types that it may be.
+pub fn pack_type_constraint(node: &TypeConstraint, out: &mut Vec<u8>) -> Result<(), AllocError>
     ensures { OnOk result (out.new.items
         ≡ out.old.items ++ packed_type_constraint (type_constraint_view node.now)) }
 {
@@ -166,7 +139,8 @@ fn pack_type_constraint(node: &TypeConstraint, out: &mut Vec<u8>) -> Result<(), 
     pack_list(NOTHING, TYPES, PART, &node.variants, out)
 }
 
-fn pack_custom(node: &CustomAttribute, out: &mut Vec<u8>) -> Result<(), AllocError>
+/// Writes an attribute of another name.
+pub fn pack_custom(node: &CustomAttribute, out: &mut Vec<u8>) -> Result<(), AllocError>
     ensures { OnOk result (out.new.items
         ≡ out.old.items ++ packed_attribute (plain.custom (custom_view node.now))) }
 {

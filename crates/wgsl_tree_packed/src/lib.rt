@@ -2,6 +2,7 @@
 #![tactic(auto)]
 
 mod attribute;
+mod attribute_nodes;
 mod chain;
 mod expression;
 mod expression_pack;

@@ -1,4 +1,4 @@
-//! The words of named values, and the texts of operators.
+//! Written by tools/tables/tree_words.py from crates/wgsl_model/nodes: words, texts of operators.
 
 ghost use Rattle.std.specs.Prelude.{◌≡◌};
 ghost use Rattle.wgsl_model.specs.Printed.Operators.{assignment_operator_text, binary_operator_text, unary_operator_text};

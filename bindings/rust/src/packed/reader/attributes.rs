@@ -80,33 +80,29 @@ impl Reader<'_> {
     }
 }
 
-/// The attribute of a name with an expression.
-fn with_argument(name: &[u8], argument: ExpressionNode) -> Option<Attribute> {
-    let attribute = match name {
-        b"align" => Attribute::Align,
-        b"binding" => Attribute::Binding,
-        b"blend_src" => Attribute::BlendSrc,
-        b"group" => Attribute::Group,
-        b"id" => Attribute::Id,
-        b"location" => Attribute::Location,
-        b"size" => Attribute::Size,
-        b"if" => Attribute::If,
-        b"elif" => Attribute::Elif,
-        _ => return None,
+/// What makes an attribute of its name.
+macro_rules! attributes_of_names {
+    (
+        with_argument: $($with_name:literal => $with:ident,)*
+        without_argument: $($name:literal => $without:ident,)*
+    ) => {
+        /// The attribute of a name with an expression.
+        fn with_argument(name: &[u8], argument: ExpressionNode) -> Option<Attribute> {
+            let attribute = match name {
+                $($with_name => Attribute::$with,)*
+                _ => return None,
+            };
+            Some(attribute(argument))
+        }
+
+        /// The attribute that is a name.
+        fn without_argument(name: &[u8]) -> Option<Attribute> {
+            Some(match name {
+                $($name => Attribute::$without,)*
+                _ => return None,
+            })
+        }
     };
-    Some(attribute(argument))
 }
 
-/// The attribute that is a name.
-fn without_argument(name: &[u8]) -> Option<Attribute> {
-    Some(match name {
-        b"const" => Attribute::Const,
-        b"invariant" => Attribute::Invariant,
-        b"must_use" => Attribute::MustUse,
-        b"vertex" => Attribute::Vertex,
-        b"fragment" => Attribute::Fragment,
-        b"compute" => Attribute::Compute,
-        b"else" => Attribute::Else,
-        _ => return None,
-    })
-}
+named_attributes!(attributes_of_names);

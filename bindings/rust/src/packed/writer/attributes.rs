@@ -3,59 +3,33 @@
 use super::*;
 use crate::syntax::*;
 
-impl Packed for Attribute {
-    fn pack<'t>(&'t self, out: &mut Writer<'t>) {
-        match self {
-            Attribute::Align(argument) => out.with_argument("align", argument),
-            Attribute::Binding(argument) => out.with_argument("binding", argument),
-            Attribute::BlendSrc(argument) => out.with_argument("blend_src", argument),
-            Attribute::Group(argument) => out.with_argument("group", argument),
-            Attribute::Id(argument) => out.with_argument("id", argument),
-            Attribute::Location(argument) => out.with_argument("location", argument),
-            Attribute::Size(argument) => out.with_argument("size", argument),
-            Attribute::If(argument) => out.with_argument("if", argument),
-            Attribute::Elif(argument) => out.with_argument("elif", argument),
-            Attribute::Builtin(value) => {
-                out.rule(BUILTIN);
-                out.text(value.word());
-            }
-            Attribute::Const => out.without_argument("const"),
-            Attribute::Invariant => out.without_argument("invariant"),
-            Attribute::MustUse => out.without_argument("must_use"),
-            Attribute::Vertex => out.without_argument("vertex"),
-            Attribute::Fragment => out.without_argument("fragment"),
-            Attribute::Compute => out.without_argument("compute"),
-            Attribute::Else => out.without_argument("else"),
-            Attribute::Diagnostic(diagnostic) => {
-                out.rule(DIAGNOSTIC);
-                out.text(diagnostic.severity.word());
-                out.text(&diagnostic.rule);
-            }
-            Attribute::Interpolate(interpolate) => {
-                out.rule(INTERPOLATE);
-                out.text(interpolate.ty.word());
-                out.optional(FURTHER_WORD, &interpolate.sampling, |out, sampling| {
-                    out.text(sampling.word());
-                });
-            }
-            Attribute::WorkgroupSize(size) => {
-                out.rule(WORKGROUP_SIZE);
-                out.expression_node(&size.x);
-                out.optional_node(FURTHER_NODE, &size.y);
-                out.optional_node(FURTHER_NODE, &size.z);
-            }
-            Attribute::TypeConstraint(constraint) => {
-                out.rule(TYPE_ATTRIBUTE);
-                constraint.pack(out);
-            }
-            Attribute::Custom(custom) => {
-                out.rule(CUSTOM);
-                out.text(&custom.name);
-                out.optional(ARGUMENTS, &custom.arguments, |out, it| out.expressions(it));
+/// What writes an attribute.
+macro_rules! packed_attributes {
+    (
+        with_argument: $($with_name:literal => $with:ident,)*
+        without_argument: $($name:literal => $without:ident,)*
+    ) => {
+        impl Packed for Attribute {
+            fn pack<'t>(&'t self, out: &mut Writer<'t>) {
+                match self {
+                    $(Attribute::$with(argument) => out.with_argument($with_name, argument),)*
+                    $(Attribute::$without => out.without_argument($name),)*
+                    Attribute::Builtin(value) => out.builtin(*value),
+                    Attribute::Diagnostic(diagnostic) => out.diagnostic(diagnostic),
+                    Attribute::Interpolate(interpolate) => out.interpolate(interpolate),
+                    Attribute::WorkgroupSize(size) => out.workgroup_size(size),
+                    Attribute::TypeConstraint(constraint) => {
+                        out.rule(TYPE_ATTRIBUTE);
+                        constraint.pack(out);
+                    }
+                    Attribute::Custom(custom) => out.custom(custom),
+                }
             }
         }
-    }
+    };
 }
+
+named_attributes!(packed_attributes);
 
 impl Packed for TypeConstraint {
     fn pack<'t>(&'t self, out: &mut Writer<'t>) {
@@ -69,16 +43,53 @@ impl Packed for TypeConstraint {
 
 impl<'t> Writer<'t> {
     /// Writes an attribute with an expression.
-    fn with_argument(&mut self, name: &str, argument: &'t ExpressionNode) {
+    fn with_argument(&mut self, name: &[u8], argument: &'t ExpressionNode) {
         self.rule(WITH_ARGUMENT);
-        self.text(name);
+        self.bytes(name);
         self.expression_node(argument);
     }
 
     /// Writes an attribute that is a name.
-    fn without_argument(&mut self, name: &str) {
+    fn without_argument(&mut self, name: &[u8]) {
         self.rule(WITHOUT_ARGUMENT);
-        self.text(name);
+        self.bytes(name);
+    }
+
+    /// Writes a `@builtin`.
+    fn builtin(&mut self, value: BuiltinValue) {
+        self.rule(BUILTIN);
+        self.text(value.word());
+    }
+
+    /// Writes a `@diagnostic`.
+    fn diagnostic(&mut self, diagnostic: &DiagnosticAttribute) {
+        self.rule(DIAGNOSTIC);
+        self.text(diagnostic.severity.word());
+        self.text(&diagnostic.rule);
+    }
+
+    /// Writes an `@interpolate`.
+    fn interpolate(&mut self, interpolate: &'t InterpolateAttribute) {
+        self.rule(INTERPOLATE);
+        self.text(interpolate.ty.word());
+        self.optional(FURTHER_WORD, &interpolate.sampling, |out, sampling| {
+            out.text(sampling.word());
+        });
+    }
+
+    /// Writes a `@workgroup_size`.
+    fn workgroup_size(&mut self, size: &'t WorkgroupSizeAttribute) {
+        self.rule(WORKGROUP_SIZE);
+        self.expression_node(&size.x);
+        self.optional_node(FURTHER_NODE, &size.y);
+        self.optional_node(FURTHER_NODE, &size.z);
+    }
+
+    /// Writes an attribute of another name.
+    fn custom(&mut self, custom: &'t CustomAttribute) {
+        self.rule(CUSTOM);
+        self.text(&custom.name);
+        self.optional(ARGUMENTS, &custom.arguments, |out, it| out.expressions(it));
     }
 
     /// Writes attributes on a line of their own.
