@@ -1,5 +1,5 @@
--- Statements in their packed form: what is written of an item of a block, and by what a block and
--- a statement end.
+-- Statements in their packed form: what is written of an item of a block, and how a block and
+-- clauses end.
 use Rattle.std.proofs.Common.{ℕ, ◌≡◌, ◌==◌, ◌<◌, ◌≤◌, ◌+◌, refl, sym, ◌∙◌, ap, map, Bool, true, false, List, [], ◌∷◌, ◌++◌, length, drop, get_or, append_assoc, if◌then◌else◌}
 use Rattle.std.proofs.lemmas.Bool.{both_ways}
 use Rattle.std.proofs.lemmas.List.{append-nil, at_drop_all, at_drop_more}
@@ -8,14 +8,14 @@ use Rattle.wgsl_model.specs.Trees.Attributes.{Attributes}
 use Rattle.wgsl_model.specs.Trees.Statements as plain
 use Rattle.wgsl_model_packed.specs.Attributes.{packed_attribute_line}
 use Rattle.wgsl_model_packed.specs.Printing.{packed_span}
-use Rattle.wgsl_model_packed.specs.Rules.{block_rule, block_end_rule, empty_end_rule, opened_end_rule, empty_opened_end_rule, ended_rule, item_rule, void_item_rule}
-use Rattle.wgsl_model_packed.specs.Statements.{end_of, end_of_clauses, ended, packed_after, packed_compound, packed_in, packed_opened, packed_statement, packed_unended}
+use Rattle.wgsl_model_packed.specs.Rules.{block_rule, block_end_rule, item_rule, void_item_rule}
+use Rattle.wgsl_model_packed.specs.Statements.{end_of, end_of_clauses, packed_in, packed_statement}
 use Rattle.wgsl_span.specs.declared.Spanned.{Spanned}
 use Rattle.wgsl_span.specs.View.{span_view}
 use Rattle.wgsl_tree_statement.specs.declared.statement.Statement.{Statement}
 use Rattle.wgsl_tree_statement.specs.declared.switch.SwitchClause.{SwitchClause}
 use Rattle.wgsl_tree_statement.specs.View.{statement_view, statement_nodes_view, switch_clause_view}
-use Rattle.wgsl_tree_packed.specs.Statements.{is_ended, packed_block}
+use Rattle.wgsl_tree_packed.specs.Statements.{packed_block}
 use Rattle.wgsl_tree_packed.proofs.Lists.{all_written, step_written, two_parts}
 
 -- what is in a block from some statements on
@@ -109,41 +109,6 @@ block_written some none end attributes items k o p q r h e so_far ends f =
     let end_is : end ∷ [] ≡ last = sym (at_drop_all at items k h) ∙ ends in
     two_parts o p r (block_rule ∷ head) (inside ++ last) e
     (two_parts p q r inside last written (f ∙ ap (λ t. q ++ t) end_is))
-
--- a block by its two ends
-pub compound_block : (b : plain.CompoundStatement)
-    → packed_block block_end_rule empty_end_rule b ≡ packed_compound b
-compound_block (plain.compound_statement attributes ss) = refl
-
-pub opened_block : (b : plain.CompoundStatement)
-    → packed_block opened_end_rule empty_opened_end_rule b ≡ packed_opened b
-opened_block (plain.compound_statement attributes ss) = refl
-
--- a block as a statement
-pub unended_block : (b : plain.CompoundStatement)
-    → packed_block block_end_rule empty_end_rule b ≡ packed_unended (plain.block_statement b)
-unended_block (plain.compound_statement attributes ss) = refl
-
--- the `;` that ends a statement
-pub ended_parts : (s : plain.Statement) → packed_statement s
-    ≡ (if is_ended s then (ended_rule ∷ packed_unended s) else packed_unended s)
-ended_parts (plain.statement attributes (plain.compound ss)) = refl
-ended_parts (plain.statement attributes (plain.if_statement s)) = refl
-ended_parts (plain.statement attributes (plain.switch_statement s)) = refl
-ended_parts (plain.statement attributes (plain.loop_statement s)) = refl
-ended_parts (plain.statement attributes (plain.for_statement s)) = refl
-ended_parts (plain.statement attributes (plain.while_statement s)) = refl
-ended_parts (plain.statement attributes plain.void) = refl
-ended_parts (plain.statement attributes (plain.assignment x)) = refl
-ended_parts (plain.statement attributes (plain.increment x)) = refl
-ended_parts (plain.statement attributes (plain.decrement x)) = refl
-ended_parts (plain.statement attributes plain.break_statement) = refl
-ended_parts (plain.statement attributes plain.continue_statement) = refl
-ended_parts (plain.statement attributes plain.discard_statement) = refl
-ended_parts (plain.statement attributes (plain.return_statement x)) = refl
-ended_parts (plain.statement attributes (plain.function_call_statement x)) = refl
-ended_parts (plain.statement attributes (plain.const_assert x)) = refl
-ended_parts (plain.statement attributes (plain.declaration x)) = refl
 
 -- the end of clauses, if there are some
 pub clauses_end : (xs ys : List SwitchClause) → ys ≡ xs → (length ys == 0) ≡ false

@@ -1,3 +1,4 @@
 pub mod Chains
+pub mod Ended
 pub mod Statements
 pub mod Units

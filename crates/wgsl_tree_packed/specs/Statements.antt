@@ -1,8 +1,8 @@
 -- Statements in their packed form, by their parts.
-use Rattle.std.specs.Prelude.{ℕ, Bool, true, false, List, ◌∷◌, ◌++◌}
+use Rattle.std.specs.Prelude.{ℕ, List, ◌∷◌, ◌++◌}
 use Rattle.wgsl_model.specs.Trees.Attributed.{Attributed}
 use Rattle.wgsl_model.specs.Trees.Attributes.{Attributes}
-use Rattle.wgsl_model.specs.Trees.Statements.{Statement, statement, UnattributedStatement, compound, if_statement, switch_statement, loop_statement, for_statement, while_statement, CompoundStatement, compound_statement}
+use Rattle.wgsl_model.specs.Trees.Statements.{UnattributedStatement, CompoundStatement, compound_statement}
 use Rattle.wgsl_model_packed.specs.Attributes.{packed_attribute_line}
 use Rattle.wgsl_model_packed.specs.Rules.{block_rule}
 use Rattle.wgsl_model_packed.specs.Statements.{packed_after, packed_in, end_of}
@@ -16,13 +16,3 @@ packed_unended_of kind a = packed_after a.attributes (kind a.node)
 abbrev pub packed_block : ℕ → ℕ → CompoundStatement → List ℕ
 packed_block some none (compound_statement attributes ss) =
     block_rule ∷ (packed_attribute_line attributes ++ (packed_in ss ++ end_of some none ss))
-
--- a `;` ends a statement
-abbrev pub is_ended : Statement → Bool
-is_ended (statement attributes (compound ss)) = false
-is_ended (statement attributes (if_statement s)) = false
-is_ended (statement attributes (switch_statement s)) = false
-is_ended (statement attributes (loop_statement s)) = false
-is_ended (statement attributes (for_statement s)) = false
-is_ended (statement attributes (while_statement s)) = false
-is_ended s = true

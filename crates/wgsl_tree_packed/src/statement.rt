@@ -1,4 +1,4 @@
-//! Statements and blocks.
+//! Written by tools/tables/packed_statements.py from the equations of packed forms: statements.
 #![tactic(auto, using(wgsl_tree_statement::proofs::Views::variants))]
 
 ghost use Rattle.std.specs.Prelude.{◌≡◌, ◌++◌, map, OnOk};
@@ -6,7 +6,8 @@ ghost use Rattle.std.specs.Option.{option_map};
 ghost use Rattle.wgsl_model.specs.Trees.Statements as plain;
 ghost use Rattle.wgsl_model.specs.Trees.Statements.{clauses_of, continuing_of, else_of, maybe_statement};
 ghost use Rattle.wgsl_model_packed.specs.Statements.{end_of_clauses, packed_compound, packed_continuing, packed_else, packed_else_clause, packed_else_if_clause, packed_if_clause, packed_maybe_continuing, packed_opened, packed_part, packed_statement, packed_switch_clause, packed_unended};
-ghost use Rattle.wgsl_tree_packed.specs.Statements.{is_ended, packed_block, packed_unended_of};
+ghost use Rattle.wgsl_tree_packed.specs.Ended.{is_ended};
+ghost use Rattle.wgsl_tree_packed.specs.Statements.{packed_block, packed_unended_of};
 ghost use Rattle.wgsl_tree_statement.specs.View.{compound_statement_view, continuing_statement_view, else_clause_view, else_if_clause_view, for_statement_view, if_clause_view, if_statement_view, loop_statement_view, statement_node_view, statement_view, switch_clause_view, switch_statement_view, while_statement_view};
 
 use crate::attribute::{pack_attribute_line, pack_attributed};
@@ -141,8 +142,8 @@ pub fn pack_compound(node: &CompoundStatement, out: &mut Vec<u8>) -> Result<(), 
 /// Writes the body of a `loop` or `continuing`.
 #[cycle(statements)]
 fn pack_opened(node: &CompoundStatement, out: &mut Vec<u8>) -> Result<(), AllocError>
-    ensures { OnOk result (out.new.items
-        ≡ out.old.items ++ packed_opened (compound_statement_view node.now)) }
+    ensures { OnOk result (out.new.items ≡ out.old.items
+        ++ packed_opened (compound_statement_view node.now)) }
 {
     pack_block(OPENED_END, EMPTY_OPENED_END, node, out)
 }
@@ -164,8 +165,8 @@ fn pack_if(node: &IfStatement, out: &mut Vec<u8>) -> Result<(), AllocError>
 
 #[cycle(statements)]
 fn pack_if_clause(node: &IfClause, out: &mut Vec<u8>) -> Result<(), AllocError>
-    ensures { OnOk result (out.new.items
-        ≡ out.old.items ++ packed_if_clause (if_clause_view node.now)) }
+    ensures { OnOk result (out.new.items ≡ out.old.items
+        ++ packed_if_clause (if_clause_view node.now)) }
 {
     pack_rule(IF_CLAUSE, out)?;
     pack_expression_node(&node.expression, out)?;
@@ -174,8 +175,8 @@ fn pack_if_clause(node: &IfClause, out: &mut Vec<u8>) -> Result<(), AllocError>
 
 #[cycle(statements)]
 fn pack_else_if_clause(node: &ElseIfClause, out: &mut Vec<u8>) -> Result<(), AllocError>
-    ensures { OnOk result (out.new.items
-        ≡ out.old.items ++ packed_else_if_clause (else_if_clause_view node.now)) }
+    ensures { OnOk result (out.new.items ≡ out.old.items
+        ++ packed_else_if_clause (else_if_clause_view node.now)) }
 {
     pack_on_expression(ELSE_IF, &node.attributes, &node.expression, out)?;
     pack_compound(&node.body, out)
@@ -197,8 +198,8 @@ fn pack_else(part: &Option<ElseClause>, out: &mut Vec<u8>) -> Result<(), AllocEr
 
 #[cycle(statements)]
 fn pack_else_clause(node: &ElseClause, out: &mut Vec<u8>) -> Result<(), AllocError>
-    ensures { OnOk result (out.new.items
-        ≡ out.old.items ++ packed_else_clause (else_clause_view node.now)) }
+    ensures { OnOk result (out.new.items ≡ out.old.items
+        ++ packed_else_clause (else_clause_view node.now)) }
 {
     pack_attributed(ELSE, &node.attributes, out)?;
     pack_compound(&node.body, out)
@@ -231,8 +232,8 @@ fn end_of_clauses(clauses: &Vec<SwitchClause>) -> u8
 
 #[cycle(statements)]
 fn pack_switch_clause(node: &SwitchClause, out: &mut Vec<u8>) -> Result<(), AllocError>
-    ensures { OnOk result (out.new.items
-        ≡ out.old.items ++ packed_switch_clause (switch_clause_view node.now)) }
+    ensures { OnOk result (out.new.items ≡ out.old.items
+        ++ packed_switch_clause (switch_clause_view node.now)) }
 {
     pack_attributed(SWITCH_CLAUSE, &node.attributes, out)?;
     pack_list(NOTHING, PARTS, PART, &node.case_selectors, out)?;
@@ -254,7 +255,8 @@ fn pack_maybe_continuing(
     part: &Option<ContinuingStatement>,
     out: &mut Vec<u8>,
 ) -> Result<(), AllocError>
-    ensures { OnOk result (out.new.items ≡ out.old.items ++ packed_maybe_continuing
+    ensures { OnOk result (out.new.items ≡ out.old.items
+        ++ packed_maybe_continuing
         (continuing_of (option_map continuing_statement_view part.now))) }
 {
     match part {
@@ -268,8 +270,8 @@ fn pack_maybe_continuing(
 
 #[cycle(statements)]
 fn pack_continuing(node: &ContinuingStatement, out: &mut Vec<u8>) -> Result<(), AllocError>
-    ensures { OnOk result (out.new.items
-        ≡ out.old.items ++ packed_continuing (continuing_statement_view node.now)) }
+    ensures { OnOk result (out.new.items ≡ out.old.items
+        ++ packed_continuing (continuing_statement_view node.now)) }
 {
     pack_attributed(CONTINUING, &node.attributes, out)?;
     pack_opened(&node.body, out)?;

@@ -5,6 +5,80 @@ use crate::packed::Unpacked;
 use crate::span::Spanned;
 use crate::syntax::*;
 
+/// Statements in which no others are, and those in which some may be: the rule of each, and what is
+/// after its attributes.
+macro_rules! unpacked_statements {
+    (
+        $self:ident,
+        short { $($short:ident($held:ident) = $short_rule:ident, $short_after:ident {
+            $($field:ident: $value:expr,)*
+        })* }
+        nesting { $($nesting:ident($inner:ident) = $rule:ident, $after:ident {
+            $($part:ident: $read:expr,)*
+        })* }
+    ) => {
+        impl Reader<'_> {
+            /// Reads what is after the number of the rule of a statement, without the `;` that
+            /// ends it.
+            pub(super) fn statement_after(&mut $self, rule: u8) -> Option<Box<Statement>> {
+                let attributes = $self.attributes()?;
+                Some(match rule {
+                    $($short_rule => {
+                        Box::new(Statement::$short($self.$short_after(attributes)?))
+                    })*
+                    $($rule)|* => {
+                        $self.open()?;
+                        let statement = $self.nesting(rule, attributes)?;
+                        $self.close();
+                        statement
+                    }
+                    VOID if attributes.is_empty() => Box::new(Statement::Void),
+                    _ => return None,
+                })
+            }
+
+            /// Reads a statement in which others are, after its attributes.
+            fn nesting(&mut $self, rule: u8, attributes: Attributes) -> Option<Box<Statement>> {
+                match rule {
+                    $($rule => $self.$after(attributes),)*
+                    _ => None,
+                }
+            }
+
+            $(#[inline]
+            pub(in crate::packed::reader) fn $short_after(
+                &mut $self,
+                attributes: Attributes,
+            ) -> Option<$held> {
+                $(let $field = $value;)*
+                Some($held { attributes, $($field,)* })
+            })*
+
+            $(#[inline(never)]
+            fn $after(&mut $self, attributes: Attributes) -> Option<Box<Statement>> {
+                $(let $part = $read;)*
+                Some(Box::new(Statement::$nesting($inner { attributes, $($part,)* })))
+            })*
+        }
+    };
+}
+
+/// The parts of statements: the rule of each, and what is after it.
+macro_rules! unpacked_structs {
+    ($($function:ident: $name:ident = $rule:ident, $self:ident {
+        $($field:ident: $value:expr,)*
+    })*) => {
+        impl Reader<'_> {
+            $(fn $function(&mut $self) -> Option<$name> {
+                $self.expect($rule)?;
+                Some($name { $($field: $value,)* })
+            })*
+        }
+    };
+}
+
+mod rows;
+
 impl Unpacked for Statement {
     fn unpack(from: &mut Reader<'_>) -> Option<Self> {
         from.statement().map(|statement| *statement)
@@ -17,111 +91,6 @@ impl Reader<'_> {
         let rule = self.rule()?;
         let after = if rule == ENDED { self.rule()? } else { rule };
         self.statement_after(after)
-    }
-
-    /// Reads what is after the number of the rule of a statement, without the `;` that ends it.
-    fn statement_after(&mut self, rule: u8) -> Option<Box<Statement>> {
-        let attributes = self.attributes()?;
-        Some(match rule {
-            DECLARATION => {
-                let declaration = self.declaration_after(attributes)?;
-                Box::new(Statement::Declaration(declaration))
-            }
-            ASSIGNMENT => {
-                let lhs = self.expression_node()?;
-                let operator = self.word()?;
-                let rhs = self.expression_node()?;
-                Box::new(Statement::Assignment(AssignmentStatement {
-                    attributes,
-                    operator,
-                    lhs,
-                    rhs,
-                }))
-            }
-            CALL_STATEMENT => {
-                let call = self.call()?;
-                Box::new(Statement::FunctionCall(FunctionCallStatement {
-                    attributes,
-                    call,
-                }))
-            }
-            RETURN => {
-                let expression = self.optional_node(RETURNED)?;
-                Box::new(Statement::Return(ReturnStatement {
-                    attributes,
-                    expression,
-                }))
-            }
-            BLOCK | IF | SWITCH | LOOP | FOR | WHILE => {
-                self.open()?;
-                let statement = self.nesting(rule, attributes)?;
-                self.close();
-                statement
-            }
-            _ => Box::new(self.short(rule, attributes)?),
-        })
-    }
-
-    /// Reads a statement in which others are, after its attributes.
-    fn nesting(&mut self, rule: u8, attributes: Attributes) -> Option<Box<Statement>> {
-        match rule {
-            IF => self.if_after(attributes),
-            FOR => self.for_after(attributes),
-            BLOCK => {
-                let statements = self.statements()?;
-                Some(Box::new(Statement::Compound(CompoundStatement {
-                    attributes,
-                    statements,
-                })))
-            }
-            WHILE => {
-                let (condition, body) = (self.expression_node()?, self.block()?);
-                Some(Box::new(Statement::While(WhileStatement {
-                    attributes,
-                    condition,
-                    body,
-                })))
-            }
-            LOOP => self.loop_after(attributes),
-            _ => self.switch_after(attributes),
-        }
-    }
-
-    /// Reads a statement of another rule, after its attributes.
-    fn short(&mut self, rule: u8, attributes: Attributes) -> Option<Statement> {
-        Some(match rule {
-            VOID => return attributes.is_empty().then_some(Statement::Void),
-            INCREMENT => Statement::Increment(IncrementStatement {
-                attributes,
-                expression: self.expression_node()?,
-            }),
-            DECREMENT => Statement::Decrement(DecrementStatement {
-                attributes,
-                expression: self.expression_node()?,
-            }),
-            BREAK => Statement::Break(BreakStatement { attributes }),
-            CONTINUE => Statement::Continue(ContinueStatement { attributes }),
-            DISCARD => Statement::Discard(DiscardStatement { attributes }),
-            CONST_ASSERT => Statement::ConstAssert(ConstAssert {
-                attributes,
-                expression: self.expression_node()?,
-            }),
-            _ => return None,
-        })
-    }
-
-    /// Reads the declaration of a value, after its attributes.
-    pub(super) fn declaration_after(&mut self, attributes: Attributes) -> Option<Declaration> {
-        Some(Declaration {
-            attributes,
-            kind: self.declaration_kind()?,
-            ident: self.ident()?,
-            ty: match self.has(TYPED)? {
-                true => Some(self.ty()?),
-                false => None,
-            },
-            initializer: self.optional_node(INITIALIZER)?,
-        })
     }
 
     /// Reads the kind of a declaration.
@@ -166,77 +135,36 @@ impl Reader<'_> {
         }
     }
 
-    /// Reads an `if` with what follows it, after its attributes.
-    #[inline(never)]
-    fn if_after(&mut self, attributes: Attributes) -> Option<Box<Statement>> {
-        self.expect(IF_CLAUSE)?;
-        let if_clause = IfClause {
-            expression: self.expression_node()?,
-            body: self.block()?,
-        };
-        let mut else_if_clauses = Vec::new();
-        while self.has(LINES)? {
-            else_if_clauses.push(self.else_if_clause()?);
-        }
-        let else_clause = match self.has(LINE)? {
-            true => Some(self.else_clause()?),
-            false => None,
-        };
-        Some(Box::new(Statement::If(IfStatement {
-            attributes,
-            if_clause,
-            else_if_clauses,
-            else_clause,
-        })))
-    }
-
-    /// Reads an `else if`.
-    fn else_if_clause(&mut self) -> Option<ElseIfClause> {
-        self.expect(ELSE_IF)?;
-        Some(ElseIfClause {
-            attributes: self.attributes()?,
-            expression: self.expression_node()?,
-            body: self.block()?,
-        })
-    }
-
-    /// Reads an `else`.
-    fn else_clause(&mut self) -> Option<ElseClause> {
-        self.expect(ELSE)?;
-        Some(ElseClause {
-            attributes: self.attributes()?,
-            body: self.block()?,
-        })
-    }
-
-    /// Reads a `switch`, after its attributes.
-    #[inline(never)]
-    fn switch_after(&mut self, attributes: Attributes) -> Option<Box<Statement>> {
-        let (expression, body_attributes) = (self.expression_node()?, self.attributes()?);
+    /// Reads clauses, each after the number of a rule, and the rule after them: one if there are
+    /// none, another if there are some.
+    #[inline]
+    fn clauses<T>(
+        &mut self,
+        (rule, none, some): (u8, u8, u8),
+        clause: impl Fn(&mut Self) -> Option<T>,
+    ) -> Option<Vec<T>> {
         let mut clauses = Vec::new();
         loop {
-            match self.rule()? {
-                LINES => clauses.push(self.switch_clause()?),
-                BLOCK_END | EMPTY_END => break,
-                _ => return None,
+            let next = self.rule()?;
+            if next != rule {
+                return (next == none || next == some).then_some(clauses);
             }
+            clauses.push(clause(self)?);
         }
-        Some(Box::new(Statement::Switch(SwitchStatement {
-            attributes,
-            expression,
-            body_attributes,
-            clauses,
-        })))
     }
 
-    /// Reads a clause of a `switch`.
-    fn switch_clause(&mut self) -> Option<SwitchClause> {
-        self.expect(SWITCH_CLAUSE)?;
-        Some(SwitchClause {
-            attributes: self.attributes()?,
-            case_selectors: self.list((NOTHING, PARTS, PART), Self::case_selector)?,
-            body: self.block()?,
-        })
+    /// Reads what may be left out, after the number of a rule.
+    #[inline]
+    fn optional<T>(
+        &mut self,
+        rule: u8,
+        part: impl Fn(&mut Self) -> Option<T>,
+    ) -> Option<Option<T>> {
+        if self.has(rule)? {
+            part(self).map(Some)
+        } else {
+            Some(None)
+        }
     }
 
     /// Reads what a clause of a `switch` selects.
@@ -246,58 +174,6 @@ impl Reader<'_> {
             NODE => Some(CaseSelector::Expression(self.expression_node()?)),
             _ => None,
         }
-    }
-
-    /// Reads a `loop`, after its attributes.
-    #[inline(never)]
-    fn loop_after(&mut self, attributes: Attributes) -> Option<Box<Statement>> {
-        let body = self.block()?;
-        let continuing = match self.has(INDENTED_LINE)? {
-            true => Some(self.continuing()?),
-            false => None,
-        };
-        Some(Box::new(Statement::Loop(LoopStatement {
-            attributes,
-            body,
-            continuing,
-        })))
-    }
-
-    /// Reads what a loop does after each turn.
-    fn continuing(&mut self) -> Option<ContinuingStatement> {
-        self.expect(CONTINUING)?;
-        Some(ContinuingStatement {
-            attributes: self.attributes()?,
-            body: self.block()?,
-            break_if: match self.has(INDENTED_LINE)? {
-                true => Some(self.break_if()?),
-                false => None,
-            },
-        })
-    }
-
-    /// Reads a `break if`.
-    fn break_if(&mut self) -> Option<BreakIfStatement> {
-        self.expect(BREAK_IF)?;
-        Some(BreakIfStatement {
-            attributes: self.attributes()?,
-            expression: self.expression_node()?,
-        })
-    }
-
-    /// Reads a `for`, after its attributes.
-    #[inline(never)]
-    fn for_after(&mut self, attributes: Attributes) -> Option<Box<Statement>> {
-        let initializer = self.part()?;
-        let condition = self.optional_node(NODE)?;
-        let (update, body) = (self.part()?, self.block()?);
-        Some(Box::new(Statement::For(ForStatement {
-            attributes,
-            initializer,
-            condition,
-            update,
-            body,
-        })))
     }
 
     /// Reads a statement in the header of a `for`, if it is there.
