@@ -1,7 +1,6 @@
 -- Statements in their packed form, by their parts.
 use Rattle.std.specs.Prelude.{ℕ, List, ◌∷◌, ◌++◌}
 use Rattle.wgsl_model.specs.Trees.Attributed.{Attributed}
-use Rattle.wgsl_model.specs.Trees.Attributes.{Attributes}
 use Rattle.wgsl_model.specs.Trees.Statements.{UnattributedStatement, CompoundStatement, compound_statement}
 use Rattle.wgsl_model_packed.specs.Attributes.{packed_attribute_line}
 use Rattle.wgsl_model_packed.specs.Rules.{block_rule}
