@@ -15,40 +15,48 @@ use wgsl_tree_packed::packed_form;
 use wgsl_tree_statement::Statement;
 use wgsl_tree_unit::{GlobalDeclaration, GlobalDirective, TranslationUnit};
 
+/// How many bytes a packed form has at most for a byte of a usual text.
+const USUAL: usize = 4;
+
+/// How many bytes are allocated for the packed form of a text at first.
+fn capacity(source: &str) -> usize {
+    source.len().saturating_mul(USUAL)
+}
+
 /// The packed form of the module that a text is.
 fn packed_unit(alloc: Global, source: &str) -> Result<Vec<u8>, Error>
     ensures { IsPackedTree module_tree source.now result }
 {
     let unit = TranslationUnit::from_str(alloc, source)?;
-    Ok(packed_form(alloc, &unit)?)
+    Ok(packed_form(alloc, &unit, capacity(source))?)
 }
 
 fn packed_directive(alloc: Global, source: &str) -> Result<Vec<u8>, Error>
     ensures { IsPackedTree directive_tree source.now result }
 {
     let directive = GlobalDirective::from_str(alloc, source)?;
-    Ok(packed_form(alloc, &directive)?)
+    Ok(packed_form(alloc, &directive, capacity(source))?)
 }
 
 fn packed_declaration(alloc: Global, source: &str) -> Result<Vec<u8>, Error>
     ensures { IsPackedTree declaration_tree source.now result }
 {
     let declaration = GlobalDeclaration::from_str(alloc, source)?;
-    Ok(packed_form(alloc, &declaration)?)
+    Ok(packed_form(alloc, &declaration, capacity(source))?)
 }
 
 fn packed_statement(alloc: Global, source: &str) -> Result<Vec<u8>, Error>
     ensures { IsPackedTree statement_tree source.now result }
 {
     let statement = Statement::from_str(alloc, source)?;
-    Ok(packed_form(alloc, &statement)?)
+    Ok(packed_form(alloc, &statement, capacity(source))?)
 }
 
 fn packed_expression(alloc: Global, source: &str) -> Result<Vec<u8>, Error>
     ensures { IsPackedTree expression_tree source.now result }
 {
     let expression = Expression::from_str(alloc, source)?;
-    Ok(packed_form(alloc, &expression)?)
+    Ok(packed_form(alloc, &expression, capacity(source))?)
 }
 
 /// The packed form of the tree that has a number, if one has.

@@ -23,11 +23,12 @@ pub trait Pack {
         ensures { OnOk result (out.new.items ≡ out.old.items ++ packed (view self.now)) };
 }
 
-/// Returns the packed form of a tree, unless an allocation fails.
-pub fn packed_form<T: Pack>(alloc: Global, tree: &T) -> Result<Vec<u8>, AllocError>
+/// Returns the packed form of a tree, unless an allocation fails. It has a capacity for some bytes
+/// at first, which grows if the form is longer.
+pub fn packed_form<T: Pack>(alloc: Global, tree: &T, capacity: usize) -> Result<Vec<u8>, AllocError>
     ensures { IfOk result (λ bytes. bytes.items ≡ T.packed (T.view tree.now)) }
 {
-    let mut bytes = Vec::new(alloc);
+    let mut bytes = Vec::with_capacity(alloc, capacity)?;
     tree.pack(&mut bytes)?;
     Ok(bytes)
 }
