@@ -2,7 +2,7 @@
    first check that fails, or 0. */
 #include <string.h>
 
-#include "library_checks.h"
+#include "library_answers.h"
 #include "wgsl.h"
 
 /* The calls that read a text and write bytes. */

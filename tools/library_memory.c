@@ -9,13 +9,9 @@
 #include <stdlib.h>
 #include <string.h>
 
+#include "library_check.h"
 #include "library_forms.h"
 #include "wgsl.h"
-
-#define CHECK(holds) \
-    do {             \
-        if (!(holds)) return __LINE__ % 256 + (__LINE__ % 256 == 0); \
-    } while (0)
 
 void *__real_malloc(size_t size);
 void *__real_realloc(void *block, size_t size);

@@ -2,7 +2,7 @@
    wrong, and exits with the line of the first check that fails, or 0. */
 #include <string.h>
 
-#include "library_checks.h"
+#include "library_answers.h"
 #include "library_forms.h"
 #include "wgsl.h"
 

@@ -305,9 +305,16 @@ pub(crate) fn print_of(kind: u32, form: &str) -> Option<String> {
     printed(Call::Print(kind), form.as_bytes(), form.len() / 4)
 }
 
+/// How many bytes a packed form has at most for a byte of its text: `!` has 26 of them.
+pub(crate) const PACKED: usize = 28;
+
 /// The packed form of the tree with a number.
 pub(crate) fn packed_form_of(what: u32, text: &str) -> Result<Vec<u8>, Fault> {
-    let packed = answered_bytes(Call::PackedTree(what), text, text.len() * 10);
+    let packed = answered_bytes(
+        Call::PackedTree(what),
+        text,
+        text.len().saturating_mul(PACKED),
+    );
     packed.map(|(_, form)| form)
 }
 

@@ -11,7 +11,7 @@ use wgsl_error::Error;
 use wgsl_parser::FromSource;
 use wgsl_print_packed::PackedError;
 use wgsl_tree_expression::Expression;
-use wgsl_tree_packed::packed_form;
+use wgsl_tree_packed::{packed_form, packed_module};
 use wgsl_tree_statement::Statement;
 use wgsl_tree_unit::{GlobalDeclaration, GlobalDirective, TranslationUnit};
 
@@ -28,7 +28,7 @@ fn packed_unit(alloc: Global, source: &str) -> Result<Vec<u8>, Error>
     ensures { IsPackedTree module_tree source.now result }
 {
     let unit = TranslationUnit::from_str(alloc, source)?;
-    Ok(packed_form(alloc, &unit, capacity(source))?)
+    Ok(packed_module(alloc, unit, capacity(source))?)
 }
 
 fn packed_directive(alloc: Global, source: &str) -> Result<Vec<u8>, Error>

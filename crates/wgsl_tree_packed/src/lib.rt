@@ -17,3 +17,4 @@ mod unit;
 mod words;
 
 pub use traits::{Pack, packed_form};
+pub use unit::packed_module;

@@ -1,6 +1,6 @@
 //! Modules, their directives and their declarations.
 
-ghost use Rattle.std.specs.Prelude.{◌≡◌, ◌++◌, List, ℕ, map, string_bytes, OnOk};
+ghost use Rattle.std.specs.Prelude.{◌≡◌, ◌++◌, List, ℕ, map, string_bytes, OnOk, IfOk};
 ghost use Rattle.std.specs.Option.{option_map};
 ghost use Rattle.wgsl_model.specs.Trees.Spanned.{Spanned};
 ghost use Rattle.wgsl_model.specs.Trees.Units as plain;
@@ -25,7 +25,7 @@ use crate::statement::pack_compound;
 use crate::text::{pack_placed, pack_rule, pack_span, pack_text};
 use crate::traits::{Pack, pack_list};
 use crate::words::severity_word;
-use std::alloc::AllocError;
+use std::alloc::{AllocError, Global};
 use wgsl_tree_attribute::Attributes;
 use wgsl_tree_expression::TypeExpression;
 use wgsl_tree_unit::{
@@ -33,24 +33,31 @@ use wgsl_tree_unit::{
     GlobalDirective, Struct, StructMember, StructMemberNode, TranslationUnit, TypeAlias,
 };
 
-impl Pack for TranslationUnit {
-    ghost Plain = { plain.TranslationUnit };
-
-    ghost view = { unit_view };
-
-    ghost packed = { packed_unit };
-
-    fn pack(&self, out: &mut Vec<u8>) -> Result<(), AllocError> {
-        pack_rule(UNIT, out)?;
-        pack_list(
-            NOTHING,
-            DIRECTIVES,
-            LAST_DIRECTIVE,
-            &self.global_directives,
-            out,
-        )?;
-        pack_declarations(&self.global_declarations, out)
-    }
+/// Returns the packed form of a module, unless an allocation fails. It has a capacity for some bytes
+/// at first, which grows if the form is longer. Each declaration is dropped once it is written,
+/// while the processor's cache has it.
+pub fn packed_module(
+    alloc: Global,
+    unit: TranslationUnit,
+    capacity: usize,
+) -> Result<Vec<u8>, AllocError>
+    ensures { IfOk result (λ bytes. bytes.items ≡ packed_unit (unit_view unit)) }
+{
+    let TranslationUnit {
+        global_directives,
+        global_declarations,
+    } = unit;
+    let mut bytes = Vec::with_capacity(alloc, capacity)?;
+    pack_rule(UNIT, &mut bytes)?;
+    pack_list(
+        NOTHING,
+        DIRECTIVES,
+        LAST_DIRECTIVE,
+        &global_directives,
+        &mut bytes,
+    )?;
+    pack_declarations(global_declarations, &mut bytes)?;
+    Ok(bytes)
 }
 
 impl Pack for GlobalDirective {
@@ -168,15 +175,15 @@ fn pack_diagnostic_directive(
     pack_text(node.rule_name.as_str(), out)
 }
 
-/// Writes declarations: the first that is not empty after one rule, and those after it after
-/// another; of an empty one its span alone.
+/// Writes declarations, of which it drops each then: the first that is not empty after one rule,
+/// and those after it after another; of an empty one its span alone.
 fn pack_declarations(
-    declarations: &Vec<GlobalDeclarationNode>,
+    declarations: Vec<GlobalDeclarationNode>,
     out: &mut Vec<u8>,
 ) -> Result<(), AllocError>
     ensures { OnOk result (out.new.items ≡ out.old.items
         ++ packed_declarations first_declaration_rule
-        (map (spanned_view global_declaration_view) declarations.now.items)) }
+        (map (spanned_view global_declaration_view) declarations.items)) }
 {
     let mut rule = FIRST_DECLARATION;
     'declarations: for item in declarations {

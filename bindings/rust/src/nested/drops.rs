@@ -14,19 +14,21 @@ thread_local! {
     static LATER: RefCell<Vec<Box<dyn Any>>> = const { RefCell::new(Vec::new()) };
 }
 
-/// A node that is being dropped.
-struct Opened;
+/// A node that is being dropped, inside others that are.
+struct Opened {
+    others: usize,
+}
 
 impl Opened {
-    fn new() -> Self {
-        OPEN.set(OPEN.get() + 1);
-        Opened
+    fn inside(others: usize) -> Self {
+        OPEN.set(others + 1);
+        Opened { others }
     }
 }
 
 impl Drop for Opened {
     fn drop(&mut self) {
-        OPEN.set(OPEN.get() - 1);
+        OPEN.set(self.others);
     }
 }
 
@@ -35,19 +37,19 @@ impl Drop for Opened {
 pub fn drop_node<T: 'static>(node: Box<T>) {
     match OPEN.get() {
         0 => {
-            drop_inside(node);
+            drop_inside(0, node);
             while let Some(node) = next_later() {
-                drop_inside(node);
+                drop_inside(0, node);
             }
         }
         DEEPEST => put_later(node),
-        _ => drop_inside(node),
+        others => drop_inside(others, node),
     }
 }
 
-/// Drops a node, while what is inside it counts as deeper.
-fn drop_inside<T: ?Sized>(node: Box<T>) {
-    let _opened = Opened::new();
+/// Drops a node inside others, while what is inside it counts as deeper.
+fn drop_inside<T: ?Sized>(others: usize, node: Box<T>) {
+    let _opened = Opened::inside(others);
     drop(node);
 }
 

@@ -98,7 +98,7 @@ impl<'t> Reader<'t> {
     /// Takes a name.
     #[inline]
     fn ident(&mut self) -> Option<Ident> {
-        self.text().map(Ident::from)
+        Ident::from_utf8(self.bytes()?)
     }
 
     /// Takes a text that is a word of an enum.
@@ -131,11 +131,15 @@ impl<'t> Reader<'t> {
         (none, before, last): (u8, u8, u8),
         item: impl Fn(&mut Self) -> Option<T>,
     ) -> Option<Vec<T>> {
-        let mut items = Vec::new();
         let mut rule = self.rule()?;
         if rule == none {
-            return Some(items);
+            return Some(Vec::new());
         }
+        if rule == last {
+            return Some(vec![item(self)?]);
+        }
+        // most lists that have several items have few
+        let mut items = Vec::with_capacity(3);
         while rule == before {
             items.push(item(self)?);
             rule = self.rule()?;

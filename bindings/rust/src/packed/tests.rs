@@ -79,6 +79,33 @@ fn trees_of_shaders_have_packed_forms() {
     assert!(count > 5, "only {count} shaders were read");
 }
 
+/// How often a part is repeated in a text.
+const TIMES: usize = 80;
+
+/// Texts with a part that is repeated, and has a longer form than most: what is before it, the
+/// part, what is after it, and what closes each.
+const DENSE: [(&str, &str, &str, &str); 9] = [
+    ("const a=", "!", "a", ""),
+    ("const a=", "a+", "a", ""),
+    ("const a=", "a.", "a", ""),
+    ("const a=", "(", "a", ")"),
+    ("const a=", "a[", "a", "]"),
+    ("const a=", "a(", "a", ")"),
+    ("fn f(){", ";", "}", ""),
+    ("fn f(){", "{}", "}", ""),
+    ("", ";", "", ""),
+];
+
+#[test]
+fn packed_forms_fit_the_first_buffer() {
+    for (before, part, after, closing) in DENSE {
+        let (parts, closing) = (part.repeat(TIMES), closing.repeat(TIMES));
+        let text = [before, &parts, after, &closing, ";"].concat();
+        let form = calls::packed_form_of(TranslationUnit::NUMBER, &text).expect(&text);
+        assert!(form.len() <= calls::PACKED * text.len(), "{text}");
+    }
+}
+
 /// Checks trees of a type that are made at random.
 fn check_made<T: Made>(check: impl Fn(&T)) {
     for seed in 0..TREES {

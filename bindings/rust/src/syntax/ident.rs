@@ -33,7 +33,18 @@ impl Ident {
     /// ```
     #[must_use]
     pub fn new(name: String) -> Self {
-        Ident(Spelling::short(&name).unwrap_or_else(|| Spelling::Long(name.into())))
+        let short = Spelling::short(name.as_bytes());
+        Ident(short.unwrap_or_else(|| Spelling::Long(name.into())))
+    }
+
+    /// Returns the name that is spelled by some bytes, if they are UTF-8.
+    #[inline]
+    pub(crate) fn from_utf8(name: &[u8]) -> Option<Self> {
+        // nearly all names are short and ASCII, which takes less to see
+        match Spelling::short(name) {
+            Some(short) if name.is_ascii() => Some(Ident(short)),
+            _ => std::str::from_utf8(name).ok().map(Ident::from),
+        }
     }
 
     /// Returns how it is spelled.
@@ -75,11 +86,9 @@ impl Ident {
 impl Spelling {
     /// Returns how a short name is spelled.
     #[inline]
-    fn short(name: &str) -> Option<Self> {
+    fn short(name: &[u8]) -> Option<Self> {
         let mut bytes = [0; SHORT];
-        bytes
-            .get_mut(..name.len())?
-            .copy_from_slice(name.as_bytes());
+        bytes.get_mut(..name.len())?.copy_from_slice(name);
         let size = name.len().try_into().ok()?;
         Some(Spelling::Short { size, bytes })
     }
@@ -94,7 +103,8 @@ impl From<String> for Ident {
 impl From<&str> for Ident {
     #[inline]
     fn from(name: &str) -> Self {
-        Ident(Spelling::short(name).unwrap_or_else(|| Spelling::Long(name.into())))
+        let short = Spelling::short(name.as_bytes());
+        Ident(short.unwrap_or_else(|| Spelling::Long(name.into())))
     }
 }
 

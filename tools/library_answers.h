@@ -1,14 +1,9 @@
-/* What the checks of the calls share: the answer of the last call, and what may be said of it. */
-#ifndef LIBRARY_CHECKS_H
-#define LIBRARY_CHECKS_H
+/* The answer of the last call, and what may be said of it. */
+#ifndef LIBRARY_ANSWERS_H
+#define LIBRARY_ANSWERS_H
 
+#include "library_check.h"
 #include "wgsl.h"
-
-/* Returns the line of a check that fails, which is no status of success. */
-#define CHECK(holds) \
-    do {             \
-        if (!(holds)) return __LINE__ % 256 + (__LINE__ % 256 == 0); \
-    } while (0)
 
 static struct wgsl_answer answer;
 
