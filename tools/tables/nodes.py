@@ -191,10 +191,9 @@ def printed():
 
 
 def printed_variants(table):
-    """What is printed as a variant of one of these kinds, each with one such variant."""
-    found = {held: f"{enum}::{variant}" for enum in PLAIN
-             for variant, held in table.by_name[enum].parts if held}
-    return "\n".join(f"    {held} = {variant}," for held, variant in found.items())
+    """What is printed as a variant of one of these kinds."""
+    found = {held: "" for enum in PLAIN for _, held in table.by_name[enum].parts if held}
+    return "\n".join(f"    {held}" for held in found)
 
 
 def read_as(table):
@@ -237,7 +236,7 @@ def write_rust(table):
     write_list("syntax/node_attributes", "The variants with attributes or a name",
                ("held_attributes", attributes(table)))
     write_list("syntax/prints/node_prints", "The nodes that are printed",
-               ("prints", printed()), ("variant_prints", printed_variants(table)))
+               ("numbered_prints", printed()), ("prints", printed_variants(table)))
     write_list("visit/node_visits", "The nodes that are visited",
                ("unvisited", unvisited(table)), ("visitors", visited(table)))
     write_list("syntax/voids/node_blocks", "Where blocks are",

@@ -301,6 +301,7 @@ pub(crate) fn form_of(what: u32, text: &str) -> Result<String, Fault> {
 }
 
 /// The printed text of the node of a kind that a form describes, unless allocation fails.
+#[cfg(test)]
 pub(crate) fn print_of(kind: u32, form: &str) -> Option<String> {
     printed(Call::Print(kind), form.as_bytes(), form.len() / 4)
 }

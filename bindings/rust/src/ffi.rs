@@ -117,6 +117,7 @@ extern "C" {
         room_size: usize,
         answer: *mut Answer,
     ) -> u32;
+    #[cfg(test)]
     fn wgsl_c_print(
         what: u32,
         form: *const u8,
@@ -191,6 +192,7 @@ pub enum Call<'k> {
     /// The text form of the tree with this number.
     Tree(u32),
     /// The printed text of the form of a node of the kind with this number.
+    #[cfg(test)]
     Print(u32),
     /// The packed form of the tree with this number.
     PackedTree(u32),
@@ -221,6 +223,7 @@ pub fn bytes_call(call: Call<'_>, text: &[u8], room: &mut Vec<u8>) -> Said {
             Call::Check => wgsl_c_check(at, size, to, room_size, &mut answer),
             Call::Recognize => wgsl_c_recognize(at, size, to, room_size, &mut answer),
             Call::Tree(what) => wgsl_c_tree(what, at, size, to, room_size, &mut answer),
+            #[cfg(test)]
             Call::Print(what) => wgsl_c_print(what, at, size, to, room_size, &mut answer),
             Call::PackedTree(what) => {
                 wgsl_c_packed_tree(what, at, size, to, room_size, &mut answer)

@@ -19,9 +19,10 @@ pub use made::{Made, Random};
 use reader::Reader;
 pub use writer::{Packed, Writer};
 
-/// How many expressions and statements are read or written inside one another. What nests deeper
-/// has no packed form here, so that neither takes more than a megabyte of stack, half of what a
-/// thread that std starts has by default: a level takes up to 10,000 bytes without optimization.
+/// How many expressions and statements are read or written inside one another, so that neither
+/// takes more than a megabyte of stack, half of what a thread that std starts has by default: a
+/// level takes up to 10,000 bytes without optimization. What nests deeper is not read, and written
+/// afterwards.
 const DEEPEST: usize = 100;
 
 /// Why no tree is read from a packed form.
@@ -49,10 +50,9 @@ pub fn from_packed<T: Unpacked>(form: &[u8]) -> Result<T, Unread> {
     }
 }
 
-/// Writes the packed form of a tree, in which each span is 0 to 0, since no print depends on it.
-/// Returns nothing if the tree nests too deep.
-pub fn to_packed<T: Packed>(tree: &T) -> Option<Vec<u8>> {
-    let mut form = Writer::without_spans();
+/// Returns the packed form of a tree, in which each span is 0 to 0, since no print depends on it.
+pub fn to_packed<T: Packed>(tree: &T) -> Vec<u8> {
+    let mut form = Writer::new(false);
     tree.pack_ended(&mut form);
     form.finish()
 }

@@ -49,9 +49,7 @@
 //! # Ok::<(), centrelilac::Fault>(())
 //! ```
 //!
-//! Printing a tree of up to 100 levels takes at most a megabyte of stack. A deeper one takes for
-//! each level at most 5,700 bytes for a block with its statement, 2,300 for another node, and none
-//! for a left operand and for what is before a component or an index. Printing returns
+//! A tree of any depth can be printed; it takes at most a megabyte of stack. Printing returns
 //! [`std::fmt::Error`] if allocation fails in the library; `to_string` panics then.
 //!
 //! [`DiagnosticAttribute`], [`InterpolateAttribute`], [`WorkgroupSizeAttribute`] and

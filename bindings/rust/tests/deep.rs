@@ -142,7 +142,17 @@ fn other_deep_texts_are_no_form() {
     });
 }
 
-/// The library reads and prints a chain without recursion, and takes stack for what nests.
+/// Trees that are made by hand are printed with the same stack however deep they are.
+#[test]
+fn deep_trees_are_printed() {
+    with_stack(1 << 10, || {
+        let text = ["(".repeat(LEVELS), "a".into(), ")".repeat(LEVELS)].concat();
+        assert!(parentheses("a").to_string() == text);
+        assert!(sum("a").to_string().ends_with(" + 99998 + 99999"));
+    });
+}
+
+/// The library reads a chain without recursion, and takes stack to read what nests.
 #[test]
 fn deep_texts_are_read_and_printed() {
     with_stack(512, || {

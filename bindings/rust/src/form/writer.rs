@@ -14,8 +14,6 @@ const DEEPEST: usize = 32;
 pub struct Writer<'t> {
     /// What is written.
     pub form: String,
-    /// Whether each span is written as 0 to 0.
-    without_spans: bool,
     /// How many expressions and statements are open.
     depth: usize,
     /// What is left out, and where.
@@ -23,15 +21,6 @@ pub struct Writer<'t> {
 }
 
 impl<'t> Writer<'t> {
-    /// Returns an empty form in which each span is 0 to 0, for a call that does not depend on
-    /// spans.
-    pub fn without_spans() -> Self {
-        Writer {
-            without_spans: true,
-            ..Writer::default()
-        }
-    }
-
     /// Writes a text.
     #[inline]
     pub fn push_str(&mut self, text: &str) {
@@ -60,10 +49,6 @@ impl<'t> Writer<'t> {
 
     /// Writes a span.
     pub fn span(&mut self, span: Span) {
-        if self.without_spans {
-            self.push_str("[0,0]");
-            return;
-        }
         self.push('[');
         self.number(span.start);
         self.push(',');
@@ -90,7 +75,6 @@ impl<'t> Writer<'t> {
         if self.later.is_empty() {
             return self.form;
         }
-        let without_spans = self.without_spans;
         let mut form = String::new();
         let mut open = vec![Part::new(self)];
         while let Some(part) = open.last_mut() {
@@ -98,10 +82,7 @@ impl<'t> Writer<'t> {
                 Some((at, inner)) => {
                     form.push_str(&part.form[part.done..at]);
                     part.done = at;
-                    let mut writer = Writer {
-                        without_spans,
-                        ..Writer::default()
-                    };
+                    let mut writer = Writer::default();
                     writer.inner(inner);
                     open.push(Part::new(writer));
                 }

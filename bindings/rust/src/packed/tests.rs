@@ -1,7 +1,7 @@
 //! That packed forms are of the trees that the library reads, and print as the library prints.
 
 use super::machine::print_of;
-use super::{from_packed, to_packed, Made, Packed, Random, Unpacked, Unread, Writer};
+use super::{from_packed, to_packed, Made, Packed, Random, Unpacked, Unread, Writer, DEEPEST};
 use crate::calls;
 use crate::form::sealed::Numbered;
 use crate::form::{text_form, to_form, Source};
@@ -19,8 +19,8 @@ const STACK: usize = 1024;
 const TREES: u64 = 200;
 
 /// Returns the packed form of a tree, with its spans.
-fn with_spans<T: Packed>(tree: &T) -> Option<Vec<u8>> {
-    let mut form = Writer::with_spans();
+fn with_spans<T: Packed>(tree: &T) -> Vec<u8> {
+    let mut form = Writer::new(true);
     tree.pack_ended(&mut form);
     form.finish()
 }
@@ -34,15 +34,13 @@ fn json_print<T: crate::form::Form + Numbered>(tree: &T) -> String {
 fn check_print<T: crate::form::Form + Numbered + Packed>(tree: &T) {
     let printed = json_print(tree);
     for form in [to_packed(tree), with_spans(tree)] {
-        let form = form.expect("a tree that is not deep");
         assert_eq!(print_of(&form).as_deref(), Some(&*printed));
     }
 }
 
 /// Checks that a tree is read from its packed form, and how that prints.
 fn check<T: Source + Packed + Unpacked>(tree: &T) {
-    let form = with_spans(tree).expect("a tree that is not deep");
-    let read: T = from_packed(&form).expect("the packed form of a tree");
+    let read: T = from_packed(&with_spans(tree)).expect("the packed form of a tree");
     assert!(equal_with_spans(&read, tree), "{}", to_form(tree));
     check_print(tree);
 }
@@ -168,7 +166,7 @@ fn nodes_made_at_random_print_by_their_packed_forms() {
 fn other_bytes_are_no_packed_forms() {
     for seed in 0..200 {
         let tree = TranslationUnit::made(&mut Random::new(seed, LEVELS));
-        let mut form = with_spans(&tree).expect("a tree that is not deep");
+        let mut form = with_spans(&tree);
         for size in 0..form.len() {
             let read = from_packed::<TranslationUnit>(&form[..size]);
             assert_eq!(read, Err(Unread::Malformed));
@@ -284,26 +282,53 @@ fn templates(levels: usize) -> Expression {
     })
 }
 
-/// Checks that trees with so many levels have a packed form, and deeper ones none.
-fn check_levels<T: Packed + Unpacked + PartialEq>(tree: impl Fn(usize) -> T, levels: usize) {
-    let deepest = tree(levels);
-    let form = to_packed(&deepest).expect("a tree that is not too deep");
-    assert!(from_packed(&form) == Ok(deepest));
-    for levels in [levels + 1, 10 * levels] {
-        assert_eq!(to_packed(&tree(levels)), None);
+/// Runs a test with so many kilobytes of stack.
+fn with_stack(kilobytes: usize, test: fn()) {
+    let thread = std::thread::Builder::new().stack_size(kilobytes << 10);
+    thread.spawn(test).expect("a thread").join().expect("holds");
+}
+
+/// Checks that a tree is read from its packed form if it has the most levels, and not if it has
+/// more.
+fn check_levels<T: Packed + Unpacked + PartialEq>(tree: impl Fn(usize) -> T) {
+    let deepest = tree(DEEPEST);
+    assert!(from_packed(&to_packed(&deepest)) == Ok(deepest));
+    for levels in [DEEPEST + 1, 10 * DEEPEST] {
+        let form = to_packed(&tree(levels));
+        assert!(from_packed::<T>(&form) == Err(Unread::TooDeep));
     }
 }
 
 #[test]
-fn trees_that_nest_too_deep_have_no_packed_form() {
-    let thread = std::thread::Builder::new().stack_size(STACK << 10);
-    let run = || {
-        check_levels(blocks, super::DEEPEST);
-        check_levels(loops, super::DEEPEST);
-        check_levels(switches, super::DEEPEST);
-        check_levels(sums, super::DEEPEST);
-        check_levels(calls, super::DEEPEST);
-        check_levels(templates, super::DEEPEST);
-    };
-    thread.spawn(run).expect("a thread").join().expect("holds");
+fn trees_that_nest_too_deep_are_not_read() {
+    with_stack(STACK, || {
+        check_levels(blocks);
+        check_levels(loops);
+        check_levels(switches);
+        check_levels(sums);
+        check_levels(calls);
+        check_levels(templates);
+    });
+}
+
+/// How many kilobytes of stack the library takes at most to print the JSON of the deepest trees.
+const JSON_STACK: usize = 16 * STACK;
+
+/// Checks the prints of trees that nest too deep to be read.
+fn check_deep_prints<T: crate::form::Form + Numbered + Packed>(tree: impl Fn(usize) -> T) {
+    for levels in [DEEPEST + 1, 2 * DEEPEST, 2 * DEEPEST + 1, 5 * DEEPEST] {
+        check_print(&tree(levels));
+    }
+}
+
+#[test]
+fn trees_of_any_depth_are_written() {
+    with_stack(JSON_STACK, || {
+        check_deep_prints(blocks);
+        check_deep_prints(loops);
+        check_deep_prints(switches);
+        check_deep_prints(sums);
+        check_deep_prints(calls);
+        check_deep_prints(templates);
+    });
 }

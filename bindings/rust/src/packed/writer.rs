@@ -10,6 +10,7 @@ use super::DEEPEST;
 use crate::span::Span;
 use crate::syntax::Ident;
 use expressions::Link;
+use std::vec::IntoIter;
 
 /// A node that has a packed form.
 pub trait Packed {
@@ -28,45 +29,57 @@ pub trait Packed {
     }
 }
 
-/// A packed form that is being written.
-#[derive(Debug)]
+/// Writes a part of a form.
+type Write<'t> = Box<dyn FnOnce(&mut Writer<'t>) + 't>;
+
+/// A packed form that is being written, with the same stack however deep its tree is.
+#[derive(Default)]
 pub struct Writer<'t> {
     /// What is written.
     form: Vec<u8>,
-    /// Which bits of the numbers of spans are written.
-    span_bits: usize,
+    /// Whether each span is written as in the tree, and not as 0 to 0.
+    has_spans: bool,
     /// How many expressions and statements are open.
     depth: usize,
-    /// Whether one of them nests too deep.
-    is_too_deep: bool,
     /// What follows what is leftmost in the expressions that are open, the next of it last.
     links: Vec<Link<'t>>,
+    /// What is left out, and where.
+    later: Vec<(usize, Write<'t>)>,
 }
 
 impl<'t> Writer<'t> {
-    /// Returns an empty form in which each span is 0 to 0.
-    pub fn without_spans() -> Self {
+    /// Returns an empty form, with the spans of the tree or with 0 to 0 for each.
+    pub fn new(has_spans: bool) -> Self {
         Writer {
             form: Vec::with_capacity(256),
-            span_bits: 0,
-            depth: 0,
-            is_too_deep: false,
-            links: Vec::new(),
+            has_spans,
+            ..Writer::default()
         }
     }
 
-    /// Returns an empty form in which each span is as in the tree.
-    #[cfg(test)]
-    pub fn with_spans() -> Self {
-        Writer {
-            span_bits: usize::MAX,
-            ..Writer::without_spans()
+    /// Returns the form with all that is left out.
+    pub fn finish(self) -> Vec<u8> {
+        if self.later.is_empty() {
+            return self.form;
         }
-    }
-
-    /// Returns the form, unless something nests too deep.
-    pub fn finish(self) -> Option<Vec<u8>> {
-        (!self.is_too_deep).then_some(self.form)
+        let (has_spans, mut form) = (self.has_spans, Vec::new());
+        let mut open = vec![Part::new(self)];
+        while let Some(part) = open.last_mut() {
+            match part.later.next() {
+                Some((at, write)) => {
+                    form.extend_from_slice(&part.form[part.done..at]);
+                    part.done = at;
+                    let mut writer = Writer::new(has_spans);
+                    write(&mut writer);
+                    open.push(Part::new(writer));
+                }
+                None => {
+                    form.extend_from_slice(&part.form[part.done..]);
+                    open.pop();
+                }
+            }
+        }
+        form
     }
 
     /// Writes the number of a rule.
@@ -85,9 +98,10 @@ impl<'t> Writer<'t> {
     #[inline]
     fn span(&mut self, span: Span) {
         let mut bytes = [0; 16];
-        let (start, end) = (span.start & self.span_bits, span.end & self.span_bits);
-        bytes[..8].copy_from_slice(&(start as u64).to_le_bytes());
-        bytes[8..].copy_from_slice(&(end as u64).to_le_bytes());
+        if self.has_spans {
+            bytes[..8].copy_from_slice(&(span.start as u64).to_le_bytes());
+            bytes[8..].copy_from_slice(&(span.end as u64).to_le_bytes());
+        }
         self.form.extend_from_slice(&bytes);
     }
 
@@ -110,21 +124,15 @@ impl<'t> Writer<'t> {
         self.form.extend_from_slice(text);
     }
 
-    /// Opens an expression or a statement, and returns whether it is to be written: not too many
-    /// are open.
+    /// Writes an expression or a statement, or leaves it out if too many are open.
     #[inline]
-    fn open(&mut self) -> bool {
+    fn inside(&mut self, write: impl FnOnce(&mut Self) + 't) {
         if self.depth == DEEPEST {
-            self.is_too_deep = true;
-            return false;
+            self.later.push((self.form.len(), Box::new(write)));
+            return;
         }
         self.depth += 1;
-        true
-    }
-
-    /// Closes what was opened last.
-    #[inline]
-    fn close(&mut self) {
+        write(self);
         self.depth -= 1;
     }
 
@@ -157,6 +165,23 @@ impl<'t> Writer<'t> {
                 self.rule(rule);
                 write(self, part);
             }
+        }
+    }
+}
+
+/// A part of a form, of which a beginning is done.
+struct Part<'t> {
+    form: Vec<u8>,
+    done: usize,
+    later: IntoIter<(usize, Write<'t>)>,
+}
+
+impl<'t> Part<'t> {
+    fn new(writer: Writer<'t>) -> Self {
+        Part {
+            form: writer.form,
+            done: 0,
+            later: writer.later.into_iter(),
         }
     }
 }

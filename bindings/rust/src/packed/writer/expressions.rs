@@ -147,12 +147,11 @@ impl<'t> Writer<'t> {
     fn template(&mut self, ident: &'t Ident, arguments: &'t [TemplateArg]) {
         self.rule(TEMPLATE);
         self.ident(ident);
-        if self.open() {
-            self.list((NOTHING, NODES, NODE), arguments, |out, argument| {
+        self.inside(move |out| {
+            out.list((NOTHING, NODES, NODE), arguments, |out, argument| {
                 out.expression_node(&argument.expression);
             });
-            self.close();
-        }
+        });
     }
 
     /// Writes an expression in which nothing has something else before it.
@@ -167,23 +166,21 @@ impl<'t> Writer<'t> {
 
     /// Writes such an expression that may nest.
     fn other(&mut self, expression: &'t Expression) {
-        if !self.open() {
-            return;
-        }
-        match expression {
-            Expression::Parenthesized(parenthesized) => parenthesized.pack(self),
-            Expression::Unary(unary) => unary.pack(self),
-            Expression::FunctionCall(call) => call.pack(self),
+        self.inside(move |out| match expression {
+            Expression::Parenthesized(parenthesized) => parenthesized.pack(out),
+            Expression::Unary(unary) => unary.pack(out),
+            Expression::FunctionCall(call) => call.pack(out),
             _ => unreachable!("the others are no leftmost expressions, or are short"),
-        }
-        self.close();
+        });
     }
 
     /// Writes an expression that ends with a link: what is leftmost in it, and each link.
     fn chain(&mut self, last: Link<'t>) {
-        if !self.open() {
-            return;
-        }
+        self.inside(move |out| out.links_after_leftmost(last));
+    }
+
+    /// Writes the same.
+    fn links_after_leftmost(&mut self, last: Link<'t>) {
         let outside = self.links.len();
         let mut left = last.left();
         self.links.push(last);
@@ -199,7 +196,6 @@ impl<'t> Writer<'t> {
             }
         }
         self.rule(NOTHING);
-        self.close();
     }
 
     /// Writes a link, with the span of what is before it.

@@ -48,14 +48,10 @@ macro_rules! packed_statements {
 
             /// Writes a statement in which others are.
             fn nesting(&mut self, statement: &'t Statement) {
-                if !self.open() {
-                    return;
-                }
-                match statement {
-                    $(Statement::$nesting(statement) => statement.pack(self),)*
+                self.inside(move |out| match statement {
+                    $(Statement::$nesting(statement) => statement.pack(out),)*
                     _ => unreachable!("no statements are in another one"),
-                }
-                self.close();
+                });
             }
         }
     };

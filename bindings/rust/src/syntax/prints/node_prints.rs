@@ -2,7 +2,7 @@
 
 use super::*;
 
-prints! {
+numbered_prints! {
     TranslationUnit = 0,
     GlobalDirective = 1,
     GlobalDeclaration = 2,
@@ -22,35 +22,35 @@ prints! {
     TypeConstraint = 16,
 }
 
-variant_prints! {
-    DiagnosticDirective = GlobalDirective::Diagnostic,
-    EnableDirective = GlobalDirective::Enable,
-    RequiresDirective = GlobalDirective::Requires,
-    Declaration = Statement::Declaration,
-    TypeAlias = GlobalDeclaration::TypeAlias,
-    Struct = GlobalDeclaration::Struct,
-    Function = GlobalDeclaration::Function,
-    ConstAssert = Statement::ConstAssert,
-    CompoundStatement = Statement::Compound,
-    AssignmentStatement = Statement::Assignment,
-    IncrementStatement = Statement::Increment,
-    DecrementStatement = Statement::Decrement,
-    IfStatement = Statement::If,
-    SwitchStatement = Statement::Switch,
-    LoopStatement = Statement::Loop,
-    ForStatement = Statement::For,
-    WhileStatement = Statement::While,
-    BreakStatement = Statement::Break,
-    ContinueStatement = Statement::Continue,
-    ReturnStatement = Statement::Return,
-    DiscardStatement = Statement::Discard,
-    FunctionCallStatement = Statement::FunctionCall,
-    LiteralExpression = Expression::Literal,
-    ParenthesizedExpression = Expression::Parenthesized,
-    NamedComponentExpression = Expression::NamedComponent,
-    IndexingExpression = Expression::Indexing,
-    UnaryExpression = Expression::Unary,
-    BinaryExpression = Expression::Binary,
-    FunctionCall = Expression::FunctionCall,
-    TypeExpression = Expression::TypeOrIdentifier,
+prints! {
+    DiagnosticDirective
+    EnableDirective
+    RequiresDirective
+    Declaration
+    TypeAlias
+    Struct
+    Function
+    ConstAssert
+    CompoundStatement
+    AssignmentStatement
+    IncrementStatement
+    DecrementStatement
+    IfStatement
+    SwitchStatement
+    LoopStatement
+    ForStatement
+    WhileStatement
+    BreakStatement
+    ContinueStatement
+    ReturnStatement
+    DiscardStatement
+    FunctionCallStatement
+    LiteralExpression
+    ParenthesizedExpression
+    NamedComponentExpression
+    IndexingExpression
+    UnaryExpression
+    BinaryExpression
+    FunctionCall
+    TypeExpression
 }
