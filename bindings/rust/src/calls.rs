@@ -22,16 +22,36 @@ pub(crate) const TOO_SMALL: u32 = 4;
 const LEAST_SIZE: usize = 1024;
 
 /// Makes a call that writes bytes, with a buffer of about a size, and again if that was too small.
-/// Returns what it wrote too.
-fn written(call: Call<'_>, text: &[u8], size: usize) -> (Said, Vec<u8>) {
-    let mut buffer = Vec::with_capacity(size.max(LEAST_SIZE));
+/// Returns what it wrote too, unless there is no memory for the buffer.
+fn written(call: Call<'_>, text: &[u8], size: usize) -> Option<(Said, Vec<u8>)> {
+    let (mut buffer, mut size) = (Vec::new(), size.max(LEAST_SIZE));
     loop {
+        buffer.try_reserve(size).ok()?;
         let said = bytes_call(call, text, &mut buffer);
-        let size = said.answer.size;
+        size = said.answer.size;
         if size <= buffer.capacity() {
-            return (said, buffer);
+            return Some((said, buffer));
         }
-        buffer.reserve(size);
+    }
+}
+
+/// Makes a call that writes items, with a buffer for some, and again if that was too small.
+/// Returns what it wrote too, unless there is no memory for the buffer.
+fn listed<T: Clone + Default>(
+    mut size: usize,
+    call: impl Fn(&mut [T]) -> Said,
+) -> Option<(Said, Vec<T>)> {
+    let mut items = Vec::new();
+    loop {
+        items.try_reserve_exact(size).ok()?;
+        items.resize(size, T::default());
+        let said = call(&mut items);
+        if said.status != TOO_SMALL {
+            items.truncate(said.answer.size);
+            return Some((said, items));
+        }
+        items.clear();
+        size = said.answer.size;
     }
 }
 
@@ -47,7 +67,7 @@ pub(crate) fn answered(call: Call<'_>, text: &str, size: usize) -> Result<(Answe
 
 /// The same with the bytes that it writes.
 fn answered_bytes(call: Call<'_>, text: &str, size: usize) -> Result<(Answer, Vec<u8>), Fault> {
-    let (said, bytes) = written(call, text.as_bytes(), size);
+    let (said, bytes) = written(call, text.as_bytes(), size).ok_or_else(Fault::out_of_memory)?;
     match said.status {
         DONE => Ok((said.answer, bytes)),
         REFUSED => Err(Fault::told(text, &said.answer, &bytes)),
@@ -161,7 +181,7 @@ pub struct Token {
 /// # Ok::<(), centrelilac::Fault>(())
 /// ```
 pub fn tokens(text: &str) -> Result<Vec<Token>, Fault> {
-    listed(text, false)
+    placed_tokens(text, false)
 }
 
 /// Returns the tokens of a text and the comments between them, in order. A line comment ends before
@@ -186,29 +206,22 @@ pub fn tokens(text: &str) -> Result<Vec<Token>, Fault> {
 /// # Ok::<(), centrelilac::Fault>(())
 /// ```
 pub fn tokens_with_comments(text: &str) -> Result<Vec<Token>, Fault> {
-    listed(text, true)
+    placed_tokens(text, true)
 }
 
 /// Returns the tokens of a text, with the comments between them or without.
-fn listed(text: &str, comments: bool) -> Result<Vec<Token>, Fault> {
-    let mut room = vec![PlacedKind::default(); text.len() / 3 + 16];
-    loop {
-        let Said { status, answer } = tokens_call(text, comments, &mut room);
-        match status {
-            DONE => {
-                let found = &room[..answer.size];
-                return Ok(found.iter().map(Token::from_placed).collect());
-            }
-            TOO_SMALL => room = vec![PlacedKind::default(); answer.size],
-            REFUSED => return Err(Fault::told(text, &answer, b"invalid token")),
-            _ => return Err(Fault::out_of_memory()),
-        }
+fn placed_tokens(text: &str, comments: bool) -> Result<Vec<Token>, Fault> {
+    let call = |items: &mut [PlacedKind]| tokens_call(text, comments, items);
+    let (said, items) = listed(text.len() / 3 + 16, call).ok_or_else(Fault::out_of_memory)?;
+    match said.status {
+        DONE => Ok(items.into_iter().map(Token::from).collect()),
+        REFUSED => Err(Fault::told(text, &said.answer, b"invalid token")),
+        _ => Err(Fault::out_of_memory()),
     }
 }
 
-impl Token {
-    /// Returns the token or the comment that the library wrote.
-    fn from_placed(placed: &PlacedKind) -> Token {
+impl From<PlacedKind> for Token {
+    fn from(placed: PlacedKind) -> Token {
         Token {
             kind: TokenKind::ALL[placed.kind],
             span: Span::new(placed.start..placed.end),
@@ -234,20 +247,11 @@ impl Token {
 /// # Ok::<(), centrelilac::Fault>(())
 /// ```
 pub fn template_lists(text: &str) -> Result<Vec<Span>, Fault> {
-    let mut room = vec![Place::default(); 64];
-    loop {
-        let Said { status, answer } = lists_call(text, &mut room);
-        match status {
-            DONE => {
-                let found = &room[..answer.size];
-                return Ok(found
-                    .iter()
-                    .map(|list| Span::new(list.start..list.end))
-                    .collect());
-            }
-            TOO_SMALL => room = vec![Place::default(); answer.size],
-            _ => return Err(Fault::out_of_memory()),
-        }
+    let call = |items: &mut [Place]| lists_call(text, items);
+    let (said, items) = listed(64, call).ok_or_else(Fault::out_of_memory)?;
+    match said.status {
+        DONE => Ok(items.iter().map(|it| Span::new(it.start..it.end)).collect()),
+        _ => Err(Fault::out_of_memory()),
     }
 }
 
@@ -326,7 +330,7 @@ pub(crate) fn packed_print_of(form: &[u8]) -> Option<String> {
 
 /// The text that a call prints of a form, unless allocation fails.
 fn printed(call: Call<'_>, form: &[u8], size: usize) -> Option<String> {
-    let (said, bytes) = written(call, form, size);
+    let (said, bytes) = written(call, form, size)?;
     let text = utf8(bytes);
     assert_ne!(said.status, REFUSED, "the form of a tree is read: {text}");
     (said.status == DONE).then_some(text)

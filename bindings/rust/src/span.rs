@@ -71,16 +71,6 @@ impl fmt::Display for Span {
     }
 }
 
-impl Written for Span {
-    fn write<'t>(&'t self, out: &mut Writer<'t>) {
-        out.span(*self);
-    }
-
-    fn read(from: &mut Reader<'_>) -> Result<Self, FormError> {
-        from.span()
-    }
-}
-
 /// A node with its span, from its first to its last token. It dereferences to the node.
 ///
 /// `==` and the hash are those of the node: spans do not matter ([`equal_with_spans`] compares
@@ -287,7 +277,7 @@ impl<T: Nested> Hash for Spanned<T> {
 impl<T: Nested + Written> Written for Spanned<T> {
     fn write<'t>(&'t self, out: &mut Writer<'t>) {
         out.push_str("{\"span\":");
-        self.span.write(out);
+        out.span(self.span);
         out.push_str(",\"node\":");
         match self.node().inner() {
             Some(inner) => out.inner(inner),

@@ -3,6 +3,7 @@
 use super::sealed::Written;
 use crate::nested::Inner;
 use crate::span::Span;
+use std::fmt::Write;
 use std::vec::IntoIter;
 
 /// How many expressions and statements are written inside one another. What nests deeper is
@@ -35,16 +36,7 @@ impl<'t> Writer<'t> {
 
     /// Writes a number that is not negative.
     pub fn number(&mut self, number: usize) {
-        let mut digits = [b'0'; 20];
-        let (mut first, mut left) = (digits.len() - 1, number);
-        while left > 9 {
-            digits[first] += (left % 10) as u8;
-            left /= 10;
-            first -= 1;
-        }
-        digits[first] += left as u8;
-        self.form
-            .extend(digits[first..].iter().map(|digit| char::from(*digit)));
+        let _ = write!(self.form, "{number}");
     }
 
     /// Writes a span.

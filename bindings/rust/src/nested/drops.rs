@@ -2,6 +2,7 @@
 
 use std::any::Any;
 use std::cell::{Cell, RefCell};
+use std::mem::ManuallyDrop;
 
 /// How many nodes may be dropped inside one another.
 const DEEPEST: usize = 64;
@@ -10,8 +11,10 @@ thread_local! {
     /// How many nodes are being dropped, each inside the one before.
     static OPEN: Cell<usize> = const { Cell::new(0) };
 
-    /// The nodes inside these that are dropped after them.
-    static LATER: RefCell<Vec<Box<dyn Any>>> = const { RefCell::new(Vec::new()) };
+    /// The nodes inside these that are dropped after them. No destructor ends the list before the
+    /// thread ends: it has no memory where no node is being dropped.
+    static LATER: ManuallyDrop<RefCell<Vec<Box<dyn Any>>>> =
+        const { ManuallyDrop::new(RefCell::new(Vec::new())) };
 }
 
 /// A node that is being dropped, inside others that are.
@@ -41,6 +44,7 @@ pub fn drop_node<T: 'static>(node: Box<T>) {
             while let Some(node) = next_later() {
                 drop_inside(0, node);
             }
+            LATER.with(|later| later.take());
         }
         DEEPEST => put_later(node),
         others => drop_inside(others, node),
@@ -53,13 +57,12 @@ fn drop_inside<T: ?Sized>(others: usize, node: Box<T>) {
     drop(node);
 }
 
-/// Puts a node on the list. At the end of a thread there may be no list any more.
+/// Puts a node on the list.
 fn put_later(node: Box<dyn Any>) {
-    let mut node = Some(node);
-    let _ = LATER.try_with(|later| later.borrow_mut().extend(node.take()));
+    LATER.with(|later| later.borrow_mut().push(node));
 }
 
 /// Takes a node from the list.
 fn next_later() -> Option<Box<dyn Any>> {
-    LATER.try_with(|later| later.borrow_mut().pop()).ok()?
+    LATER.with(|later| later.borrow_mut().pop())
 }

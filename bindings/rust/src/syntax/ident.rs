@@ -40,7 +40,7 @@ impl Ident {
     /// Returns the name that is spelled by some bytes, if they are UTF-8.
     #[inline]
     pub(crate) fn from_utf8(name: &[u8]) -> Option<Self> {
-        // nearly all names are short and ASCII, which takes less to see
+        // nearly all names are short and ASCII, which is checked faster
         match Spelling::short(name) {
             Some(short) if name.is_ascii() => Some(Ident(short)),
             _ => std::str::from_utf8(name).ok().map(Ident::from),
@@ -56,7 +56,10 @@ impl Ident {
     /// ```
     #[must_use]
     pub fn name(&self) -> &str {
-        std::str::from_utf8(self.bytes()).expect("the bytes of a text")
+        match &self.0 {
+            Spelling::Short { .. } => std::str::from_utf8(self.bytes()).expect("a text"),
+            Spelling::Long(name) => name,
+        }
     }
 
     /// Returns the bytes of its name.
@@ -118,7 +121,7 @@ impl Eq for Ident {}
 
 impl Hash for Ident {
     fn hash<H: Hasher>(&self, state: &mut H) {
-        self.name().hash(state);
+        self.bytes().hash(state);
     }
 }
 

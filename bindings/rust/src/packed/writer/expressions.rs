@@ -224,21 +224,8 @@ impl<'t> Writer<'t> {
 
     /// Writes a whole number in decimal after the number of a rule.
     fn integer(&mut self, rule: u8, number: i64) {
-        let mut digits = [b'0'; 20];
-        let (mut first, mut left) = (digits.len() - 1, number.unsigned_abs());
-        while left > 9 {
-            digits[first] += (left % 10) as u8;
-            left /= 10;
-            first -= 1;
-        }
-        digits[first] += left as u8;
-        if number < 0 {
-            first -= 1;
-            digits[first] = b'-';
-        }
         self.rule(rule);
-        self.number(digits.len() - first);
-        self.form.extend_from_slice(&digits[first..]);
+        self.text(&number.to_string());
     }
 }
 
