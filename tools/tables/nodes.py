@@ -233,7 +233,7 @@ def write_rust(table):
     write_list("syntax/node_structs", "The structs of the trees", ("structs", structs))
     write_list("syntax/node_enums", "The enums of the trees", ("enums", enums))
     write_list("syntax/node_variants", "The calls for variants", ("variants", variants(table)))
-    write_list("syntax/node_attributes", "The variants with attributes or a name",
+    write_list("syntax/node_attributes", "Attributes and names of variants",
                ("held_attributes", attributes(table)))
     write_list("syntax/prints/node_prints", "The nodes that are printed",
                ("numbered_prints", printed()), ("prints", printed_variants(table)))

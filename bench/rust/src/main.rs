@@ -10,12 +10,13 @@ usage: wgsl_speed [--runs N] FILE..
 For each file that is a module it prints a line for each measurement, with megabytes a second, of
 the best and of the median of N runs, which are made in turn; N is 15 unless it is given.
 
-    lex           the tokens as an array
-    parse         the tokens and the tree, which is dropped
-    format        the same and the printed text
-    print         what `format` takes more than `parse`
-    rust tree     the tree as Rust's, which is dropped
-    rust print    what it takes more to print that tree
+    lex                   the tokens as an array
+    parse                 the tokens and the tree, which is dropped
+    format                the same and the printed text
+    rust tree             the tree as Rust's, which is dropped
+    rust tree, printed    the same and the printed text
+    print                 what `format` takes more than `parse`
+    rust print            what `rust tree, printed` takes more than `rust tree`
 
 To compare another implementation in the same process, add its crate to
 bench/rust/Cargo.toml and a line for each of its calls to MEASURED in bench/rust/src/main.rs:

@@ -28,6 +28,18 @@ impl Names {
 /// Renames what is declared and its uses, also where a function declares the name again.
 struct Rename(HashMap<Ident, Ident>);
 
+impl Rename {
+    /// Gives names a new one each, which none of the modules has.
+    fn new(renamed: &HashSet<Ident>, modules: [&TranslationUnit; 2]) -> Self {
+        let mut names = Names::default();
+        for module in modules {
+            module.accept(&mut names);
+        }
+        let pair = |name: &Ident| (name.clone(), names.numbered(name));
+        Rename(renamed.iter().map(pair).collect())
+    }
+}
+
 impl VisitMut for Rename {
     fn visit_ident_mut(&mut self, ident: &mut Ident) {
         if let Some(new) = self.0.get(ident) {
@@ -53,23 +65,14 @@ fn declared(unit: &TranslationUnit) -> HashSet<Ident> {
     declarations.filter_map(SyntaxNode::ident).collect()
 }
 
-/// Returns two modules as one.
-pub fn link(mut first: TranslationUnit, mut second: TranslationUnit) -> TranslationUnit {
-    let mut names = Names::default();
-    first.accept(&mut names);
-    second.accept(&mut names);
-    let (taken, new) = (declared(&first), declared(&second));
-    let clashes = taken.intersection(&new);
-    let renamed = clashes.map(|name| (name.clone(), names.numbered(name)));
-    second.accept_mut(&mut Rename(renamed.collect()));
-
-    for directive in second.global_directives {
-        if !first.global_directives.contains(&directive) {
-            first.global_directives.push(directive);
-        }
-    }
+/// Puts a module at the end of another.
+pub fn link(first: &mut TranslationUnit, mut second: TranslationUnit) {
+    let clashes = &declared(first) & &declared(&second);
+    second.accept_mut(&mut Rename::new(&clashes, [first, &second]));
+    let new = |it: &GlobalDirective| !first.global_directives.contains(it);
+    second.global_directives.retain(new);
+    first.global_directives.extend(second.global_directives);
     first.global_declarations.extend(second.global_declarations);
-    first
 }
 
 /// Returns the module in a file.
@@ -79,13 +82,11 @@ fn read(name: &str) -> Result<TranslationUnit, String> {
 }
 
 fn main() -> ExitCode {
-    let mut modules = std::env::args().skip(1).map(|name| read(&name));
-    let linked = modules.try_fold(TranslationUnit::new(), |linked, module| {
-        module.map(|module| link(linked, module))
-    });
-    match linked {
-        Ok(module) => {
-            print!("{module}");
+    let mut linked = TranslationUnit::new();
+    let mut names = std::env::args().skip(1);
+    match names.try_for_each(|name| read(&name).map(|module| link(&mut linked, module))) {
+        Ok(()) => {
+            print!("{linked}");
             ExitCode::SUCCESS
         }
         Err(message) => {

@@ -1,25 +1,33 @@
 //! Reports every `if` that compares floats with `==`: as `FILE:LINE:COLUMN: MESSAGE` for each file
 //! that is named. The status is 1 if there is one, and 2 if a file is not a module.
 //!
-//! A float is here a literal such as `1.5` or `2f`, a value whose declaration says that it is an
-//! `f32` or an `f16`, or a value that begins with a float, and a sum and the like of these.
+//! A float is here a literal such as `1.5` or `2f`, what `f32(..)` and `f16(..)` return, a value
+//! whose declaration says that it is an `f32` or an `f16`, or a value that begins with a float, and
+//! a sum and the like of these.
 
 use centrelilac::syntax::*;
 use centrelilac::visit::{Accept, Visit, Walk};
 use centrelilac::{Fault, LineIndex};
-use std::collections::HashMap;
 use std::process::ExitCode;
 
 const MESSAGE: &str = "floats are compared with `==`";
 
-/// The names of values, each with whether it is a float, and where floats are compared.
+/// What is known of values, and where floats are compared.
 #[derive(Default)]
 struct Lint<'t> {
-    floats: HashMap<&'t str, bool>,
+    /// The names that are declared, the innermost last, each with whether it is a float.
+    names: Vec<(&'t str, bool)>,
     found: Vec<Span>,
 }
 
-impl Lint<'_> {
+impl<'t> Lint<'t> {
+    /// Visits the parts of a node. What they declare is not known after it.
+    fn walk_scope(&mut self, node: &'t impl Walk) {
+        let outer = self.names.len();
+        node.walk(self);
+        self.names.truncate(outer);
+    }
+
     /// Returns whether an expression is known to be a float.
     fn is_float(&self, expression: &Expression) -> bool {
         match expression {
@@ -30,11 +38,15 @@ impl Lint<'_> {
             Expression::Unary(unary) => self.is_float(&unary.operand),
             Expression::Binary(binary) => self.is_float_sum(binary),
             Expression::FunctionCall(call) => is_float_type(&call.ty),
-            Expression::TypeOrIdentifier(name) => {
-                self.floats.get(name.ident.name()).is_some_and(|is| *is)
-            }
+            Expression::TypeOrIdentifier(name) => self.is_float_name(name.ident.name()),
             Expression::NamedComponent(_) | Expression::Indexing(_) => false,
         }
+    }
+
+    /// Returns whether the innermost value with a name is a float.
+    fn is_float_name(&self, name: &str) -> bool {
+        let known = self.names.iter().rfind(|known| known.0 == name);
+        known.is_some_and(|(_, is_float)| *is_float)
     }
 
     /// Returns whether an operation gives a float.
@@ -48,7 +60,7 @@ impl Lint<'_> {
     /// Notes the comparisons in a condition.
     fn check(&mut self, condition: &ExpressionNode) {
         let mut comparisons = Comparisons {
-            floats: self,
+            lint: self,
             found: Vec::new(),
         };
         comparisons.visit_expression_node(condition);
@@ -64,21 +76,28 @@ fn is_float_type(ty: &TypeExpression) -> bool {
 
 impl<'t> Visit<'t> for Lint<'t> {
     fn visit_function(&mut self, function: &'t Function) {
-        // what a function declares is not known after it
-        let outer = self.floats.clone();
-        function.walk(self);
-        self.floats = outer;
+        self.walk_scope(function);
     }
 
     fn visit_compound_statement(&mut self, block: &'t CompoundStatement) {
-        let outer = self.floats.clone();
-        block.walk(self);
-        self.floats = outer;
+        self.walk_scope(block);
+    }
+
+    fn visit_for_statement(&mut self, statement: &'t ForStatement) {
+        self.walk_scope(statement);
+    }
+
+    fn visit_loop_statement(&mut self, statement: &'t LoopStatement) {
+        // `continuing` knows what the block before it declares
+        let outer = self.names.len();
+        statement.body.walk(self);
+        statement.continuing.accept(self);
+        self.names.truncate(outer);
     }
 
     fn visit_formal_parameter(&mut self, parameter: &'t FormalParameter) {
         let is_float = is_float_type(&parameter.ty);
-        self.floats.insert(parameter.ident.name(), is_float);
+        self.names.push((parameter.ident.name(), is_float));
     }
 
     fn visit_declaration(&mut self, declaration: &'t Declaration) {
@@ -88,7 +107,7 @@ impl<'t> Visit<'t> for Lint<'t> {
             (None, Some(value)) => self.is_float(value),
             (None, None) => false,
         };
-        self.floats.insert(declaration.ident.name(), is_float);
+        self.names.push((declaration.ident.name(), is_float));
     }
 
     fn visit_if_clause(&mut self, clause: &'t IfClause) {
@@ -104,14 +123,14 @@ impl<'t> Visit<'t> for Lint<'t> {
 
 /// The comparisons of floats in a condition.
 struct Comparisons<'l, 't> {
-    floats: &'l Lint<'t>,
+    lint: &'l Lint<'t>,
     found: Vec<Span>,
 }
 
 impl<'t> Visit<'t> for Comparisons<'_, '_> {
     fn visit_expression_node(&mut self, node: &'t ExpressionNode) {
         if let Expression::Binary(binary) = node.node() {
-            let is_float = |side: &ExpressionNode| self.floats.is_float(side);
+            let is_float = |side: &ExpressionNode| self.lint.is_float(side);
             let equality = binary.operator == BinaryOperator::Equality;
             if equality && (is_float(&binary.left) || is_float(&binary.right)) {
                 self.found.push(node.span());

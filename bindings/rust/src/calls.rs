@@ -115,7 +115,9 @@ pub fn check(text: &str) -> Result<(), Fault> {
     text_of(Call::Check, text, 0).map(drop)
 }
 
-/// Checks whether a text is a module of the smaller dialect in which nothing is checked.
+/// Checks whether a text is a module of a smaller language, the dialect. Its names are identifiers
+/// only, also after `@`, its sums have no `--`, and fewer nodes have attributes; what attributes,
+/// `var` templates and diagnostics contain is not checked.
 ///
 /// # Errors
 ///
@@ -273,9 +275,12 @@ pub fn begins_with_template_list(text: &str) -> Result<bool, Fault> {
 }
 
 /// Returns the greatest number of brackets, blocks, template lists and prefix operators that are
-/// open at one place. What reads, prints and drops a text takes stack for each: in the library at
-/// most 1,250 bytes for a bracket, a template list or an operator, and 2,750 for a block. [Printing
-/// a tree](crate::syntax#printing) takes more.
+/// open at one place of a text, up to its first invalid token.
+///
+/// Reading a text takes stack for each: in the library at most 2,750 bytes for a block with its
+/// statement and 1,200 for each other, in [`minify`](crate::minify) 2,900 and 1,600, and in
+/// [`tidy`](crate::tidy) 1,250 for each. This call takes no such stack, nor does [printing a
+/// tree](crate::syntax#printing).
 ///
 /// # Errors
 ///

@@ -117,8 +117,8 @@ impl Fault {
         ErrorWithSource::new(self, source)
     }
 
-    /// Adds the name of the file that it is about, and the text of that, with which it is written as
-    /// compilers do.
+    /// Adds the name of the file that it is about, and the text of that, with which it is written
+    /// as compilers do.
     ///
     /// ```
     /// let text = "const a = 1;\nconst = 2;";

@@ -2,9 +2,8 @@
 //!
 //! What a call requires, as `wgsl.h` says, is what Rust's references give: memory that can be read
 //! or written, is apart and stays as it is for the call. Of the stack, each level of nesting
-//! takes at most 2,750 bytes as measured, and 5,700 where JSON is printed, so that a text or a
-//! tree which nests too deep reaches the guard page at the end of the stack, as a recursion of
-//! Rust's does, and ends the process.
+//! takes at most 2,900 bytes as measured, so that a text which nests too deep reaches the guard
+//! page at the end of the stack, as a recursion of Rust's does, and ends the process.
 
 /// The result of a call beside its status: `struct wgsl_answer` of `wgsl.h`.
 #[repr(C)]

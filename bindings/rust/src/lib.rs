@@ -25,10 +25,10 @@
 //! [`visit`] walks over them, [`LineIndex`] finds lines and columns, and [`form`] has their text
 //! form.
 //!
-//! What nests takes stack when the library reads or prints it: [`nesting`] returns how deep a text
-//! nests. [`parse`] and `{}` may take a megabyte more. A tree of any depth is dropped, copied, compared and hashed with little stack; walks,
-//! `{}` and `{:?}` take stack for each level. All calls may be made from any thread, at the same
-//! time too.
+//! What nests takes stack when the library reads it: [`nesting`] returns how deep a text nests, and
+//! [`parse`] may take a megabyte more. A tree of any depth is printed with at most a megabyte of
+//! stack, and dropped, copied, compared and hashed with little; walks and `{:?}` take stack for
+//! each level. All calls may be made from any thread, at the same time too.
 #![deny(unsafe_code, missing_docs)]
 
 mod calls;

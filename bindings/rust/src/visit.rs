@@ -213,7 +213,7 @@ macro_rules! visitors {
         /// The lifetime is that of the tree, so a visitor can keep what it is given.
         pub trait Visit<'t> {
             $(
-                #[doc = concat!("Reads a [`", stringify!($name), "`].")]
+                #[doc = concat!("Reads a [`", stringify!($name), "`]: see the [example](super).")]
                 fn $visit(&mut self, node: &'t $name) {
                     node.walk(self);
                 }
@@ -223,7 +223,7 @@ macro_rules! visitors {
         /// A visitor that changes the nodes of a tree: see the [module](super).
         pub trait VisitMut {
             $(
-                #[doc = concat!("Changes a [`", stringify!($name), "`].")]
+                #[doc = concat!("Changes a [`", stringify!($name), "`]: see the [example](super).")]
                 fn $visit_mut(&mut self, node: &mut $name) {
                     node.walk_mut(self);
                 }

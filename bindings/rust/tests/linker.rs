@@ -8,8 +8,8 @@ use centrelilac::parse;
 
 /// Checks that two modules together are a third.
 fn check(first: &str, second: &str, wanted: &str) {
-    let [first, second, wanted] = [first, second, wanted].map(|text| parse(text).expect(text));
-    let linked = linker::link(first, second);
+    let [mut linked, second, wanted] = [first, second, wanted].map(|text| parse(text).expect(text));
+    linker::link(&mut linked, second);
     assert_eq!(linked, wanted);
     assert_eq!(linked.to_string().parse(), Ok(wanted));
 }
@@ -33,6 +33,16 @@ fn each_may_use_what_the_other_declares() {
         "fn f() { g(); }",
         "fn g() { h(f); } fn h(f: i32) { let g = f; }",
         "fn f() { g(); } fn g() { h(f); } fn h(f: i32) { let g = f; }",
+    );
+}
+
+#[test]
+fn what_only_one_declares_keeps_its_name() {
+    check(
+        "fn min(a: i32) -> i32 { return a; } const b = 1;",
+        "const a = min(max(1, 2), 3); const b = a;",
+        "fn min(a: i32) -> i32 { return a; } const b = 1;
+        const a = min(max(1, 2), 3); const b_2 = a;",
     );
 }
 

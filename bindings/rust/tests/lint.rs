@@ -31,6 +31,25 @@ fn g(b: i32) { if b == 1 { } if -eps == f32(b) { } if a == b { } }
     assert_eq!(places(text), wanted);
 }
 
+/// What is declared is known up to the end of its block, and before that in place of what is
+/// declared outside.
+#[test]
+fn names_are_known_in_their_blocks() {
+    let text = "var<private> x: i32;
+fn f() {
+    for (var x = 0.5; x < 2; x += 0.5) { if x == 1 { } }
+    if x == 1 { }
+    loop {
+        let x = 1f;
+        continuing { if x == 1 { } }
+    }
+    if x == 1 { }
+    { let x = 1f; { let x = 1; if x == 1 { } } if x == 1 { } }
+}
+";
+    assert_eq!(places(text), ["3:45", "7:25", "10:51"]);
+}
+
 #[test]
 fn other_statements_are_left_alone() {
     let text = "fn f(a: f32) { let b = a == 1.0; while a == 2.0 { } switch 1 { default { } } }";

@@ -105,7 +105,7 @@ fn check_unit(row: &Row) {
     }
 }
 
-/// Returns the tokens that are wanted, by their places, and what ends them.
+/// Checks the tokens of a text by their places, or its first invalid one.
 fn check_tokens(row: &Row) {
     let text = std::str::from_utf8(&row.text).expect("a text");
     let wanted = texts_of(row.wanted("items").expect("items"));

@@ -1,4 +1,4 @@
-//! The variants with attributes or a name, written by tools/tables/nodes.py from crates/wgsl_model/nodes.
+//! Attributes and names of variants, written by tools/tables/nodes.py from crates/wgsl_model/nodes.
 
 use super::*;
 

@@ -212,15 +212,7 @@ impl Maker {
                 self.expression();
                 self.put(";");
             }
-            4 | 5 => {
-                self.name();
-                self.perhaps("", |it| it.one_of(&["[1]", ".xy", "[a + 1].b"]));
-                self.put(" ");
-                self.one_of(ASSIGNED);
-                self.put(" ");
-                self.expression();
-                self.put(";");
-            }
+            4 | 5 => self.assignment(),
             6 => {
                 self.name();
                 self.one_of(&["++;", "--;"]);
@@ -237,6 +229,16 @@ impl Maker {
             kind => self.compound(kind),
         }
         self.depth -= 1;
+    }
+
+    fn assignment(&mut self) {
+        self.name();
+        self.perhaps("", |it| it.one_of(&["[1]", ".xy", "[a + 1].b"]));
+        self.put(" ");
+        self.one_of(ASSIGNED);
+        self.put(" ");
+        self.expression();
+        self.put(";");
     }
 
     /// A statement that has others in it.

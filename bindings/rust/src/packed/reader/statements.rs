@@ -96,11 +96,9 @@ impl Reader<'_> {
     /// Reads the kind of a declaration.
     fn declaration_kind(&mut self) -> Option<DeclarationKind> {
         match self.rule()? {
-            NAME => match self.bytes()? {
-                b"const" => Some(DeclarationKind::Const),
-                b"override" => Some(DeclarationKind::Override),
-                b"let" => Some(DeclarationKind::Let),
-                _ => None,
+            NAME => match self.word()? {
+                DeclarationKind::Var(_) => None,
+                kind => Some(kind),
             },
             VAR => Some(DeclarationKind::Var(match self.has(VAR_TEMPLATE)? {
                 true => Some((self.word()?, self.further_word()?)),

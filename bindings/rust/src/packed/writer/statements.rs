@@ -61,20 +61,15 @@ mod rows;
 
 impl Packed for DeclarationKind {
     fn pack<'t>(&'t self, out: &mut Writer<'t>) {
-        let word = match self {
-            DeclarationKind::Const => "const",
-            DeclarationKind::Override => "override",
-            DeclarationKind::Let => "let",
-            DeclarationKind::Var(template) => {
-                out.rule(VAR);
-                return out.optional(VAR_TEMPLATE, template, |out, (space, mode)| {
-                    out.text(space.word());
-                    out.optional(FURTHER_WORD, mode, |out, mode| out.text(mode.word()));
-                });
-            }
+        let DeclarationKind::Var(template) = self else {
+            out.rule(NAME);
+            return out.text(self.word());
         };
-        out.rule(NAME);
-        out.text(word);
+        out.rule(VAR);
+        out.optional(VAR_TEMPLATE, template, |out, (space, mode)| {
+            out.text(space.word());
+            out.optional(FURTHER_WORD, mode, |out, mode| out.text(mode.word()));
+        });
     }
 }
 
