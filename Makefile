@@ -65,7 +65,7 @@ test:
 # The tests of make test that need no prover, but for the static library, over what it proved.
 programs:
 	@cd examples && for shader in *.wgsl printed/*.wgsl; do \
-	    ../crates/wgslfmt/out/wgslfmt < $$shader | cmp - printed/$${shader##*/} \
+	    { ../crates/wgslfmt/out/wgslfmt < $$shader || echo; } | cmp - printed/$${shader##*/} \
 	        || { echo "Failed: the print of examples/$$shader."; exit 1; }; \
 	done
 	@tools/run_tests || { echo "Failed: tools/run_tests, as the lines above say."; exit 1; }

@@ -117,8 +117,7 @@ struct wgsl_place {
     size_t end;
 };
 
-/* The line breaks of a formatted text: CR LF if the first line of its source does,
- * otherwise with LF; with LF; with CR LF. */
+/* The line breaks of a formatted text: that of the first line of its source; LF; CR LF. */
 enum wgsl_newlines { WGSL_NEWLINES_AUTO = 0, WGSL_NEWLINES_LF = 1, WGSL_NEWLINES_CRLF = 2 };
 
 /* The choices for the layout of a formatted text. */
@@ -397,8 +396,9 @@ static inline uint32_t wgsl_snippet(const char *name, size_t name_size, const ch
                           size, (uint8_t *)wgsl_at(buffer), buffer_size, answer);
 }
 
-/* Checks whether a text is a module of the smaller dialect in which names are identifiers alone and
- * nothing is checked: as wgsl_check. */
+/* Checks whether a text is a module of a smaller language, the dialect, as wgsl_check does: its
+ * names are identifiers only, also after `@`, its sums have no `--`, and fewer nodes have
+ * attributes; what attributes, `var` templates and diagnostics contain is not checked. */
 static inline uint32_t wgsl_recognize(const char *text, size_t size, char *buffer,
                                       size_t buffer_size, struct wgsl_answer *answer) {
     if (!wgsl_is_memory(text, size, 1) || !wgsl_is_memory(buffer, buffer_size, 1)
