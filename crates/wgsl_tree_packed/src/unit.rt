@@ -195,7 +195,8 @@ fn pack_declarations(
         item.node().pack(out)?;
         rule = DECLARATIONS;
     }
-    pack_rule(NOTHING, out)
+    pack_rule(NOTHING, out)?;
+    Ok(())
 }
 
 fn pack_alias(node: &TypeAlias, out: &mut Vec<u8>) -> Result<(), AllocError>
