@@ -65,7 +65,7 @@ class Views:
     def nodes(self):
         """Spanned plain trees, lists of them, and one that may be left out."""
         root = self.cycle.root.name
-        held, node, made = f"plain.{root}", snake(root), f"plain.{snake(root)}_node"
+        held, made = f"plain.{root}", f"plain.{snake(root)}_node"
         yield "-- parts whose own parts are plain data"
         yield (f"abbrev pub node_of : Spanned {held} → plain.{root}Node\n"
                f"node_of s = {made} (spanned_node s) (span_view (spanned_span s))\n")
@@ -148,7 +148,7 @@ class Views:
     def text(self):
         """The file."""
         cycle, fold = self.cycle, self.fold
-        root, crate = cycle.root.name, f"Rattle.wgsl_tree_{cycle.crate}"
+        root = cycle.root.name
         kinds = [cycle.table.by_name[name] for name in fold.names]
         body = "\n".join([
             *self.nodes(), "-- a layer whose parts are plain data",

@@ -2,6 +2,7 @@
 tools/tables/statement_readers.py."""
 import re
 
+from form_answers import answer
 from node_groups import plain_modules
 from node_table import TABLE, Table, separated, snake
 from plain_trees import UNATTRIBUTED, coded, constructor, is_apart, word_text
@@ -15,11 +16,6 @@ NEXT = "λ value held more e."
 def told(step):
     """What an error that is passed on says."""
     return f"told c.{step}.result _ _ c.{step}.ensures"
-
-
-def answer(name, proof, arguments="c"):
-    """The answer to a goal."""
-    return f"pub {name} : goal.{name}\n{name} {arguments} = {proof}\n"
 
 
 def part_of(kind, name):
@@ -40,17 +36,17 @@ def struct_answers(table, kind):
         taken = f"ensures.taken {values} held.1.0 more e"
     else:
         taken = f"ensures.taken {values} {held} more e"
-    body = [answer("returns-clause-read", f"c.in_ok-{first}.ensures.read"),
-            answer(f"returns-in_err-{first}-clause-taken",
+    body = [answer("returns-clause-read", "c", f"c.in_ok-{first}.ensures.read"),
+            answer(f"returns-in_err-{first}-clause-taken", "c",
                    f"{NEXT}\n    {told('from_residual')} (c.in_err-{first}.{taken})"),
-            answer("returns-clause-taken", f"{NEXT} c.in_ok-{first}.{taken}")]
+            answer("returns-clause-taken", "c", f"{NEXT} c.in_ok-{first}.{taken}")]
     return [f"{HERE}.Passing.{{told}}"], "\n".join(body)
 
 
 def node_answers():
     """The same for a node with its span."""
-    body = [answer("returns-clause-read", "c.read_placed.ensures.read"),
-            answer("returns-clause-taken", "λ value. c.read_placed.ensures.taken value.span value.node")]
+    body = [answer("returns-clause-read", "c", "c.read_placed.ensures.read"),
+            answer("returns-clause-taken", "c", "λ value. c.read_placed.ensures.taken value.span value.node")]
     return [], "\n".join(body)
 
 
@@ -58,13 +54,12 @@ def word_answers(table, kind):
     """The same for a word."""
     code = coded(kind.name)
     plain = f"{code.removesuffix('_code')}_plain"
-    read = "from_str" if kind.name in FROM_STR else snake(kind.name)
-    body = [answer("returns-in_default-clause-taken",
+    body = [answer("returns-in_default-clause-taken", "c",
                    f"{NEXT} absurd (c.in_default.ensures _ ({plain} value) more e)"),
-            answer("returns-in-Err-clause-taken",
+            answer("returns-in-Err-clause-taken", "c",
                    f"{NEXT} absurd (c.in-Err.ensures value (same_word c.in-Some.word.now ({word_text(kind)} value) _ more"
                    " c.in-Some.ensures e).0)"),
-            answer("returns-in-Ok-clause-taken",
+            answer("returns-in-Ok-clause-taken", "c",
                    f"{NEXT} (same_word c.in-Some.word.now ({word_text(kind)} value) _ more c.in-Some.ensures e).1")]
     words = "Printed.Operators" if kind.name not in FROM_STR else "Trees.NamedValues"
     return [f"Rattle.wgsl_model.specs.{words}.{{{word_text(kind)}}}",
@@ -253,20 +248,20 @@ def enum_answers(table, kind):
             taken = f"_ (λ y limit h. c.{{}}-inner-in-{name}.ensures.taken y {given}) value held more e"
             lemma_call = f"held_next {code} {enum.name}_plain (codes \"{name}\") {inner} {lemma} refl c.next_name.ensures c.in-{name}.is"
             if held not in LIMITS:
-                body.append(answer(f"returns-in_ok-inner-in-{name}-clause-read",
+                body.append(answer(f"returns-in_ok-inner-in-{name}-clause-read", "c",
                                    f"c.in_ok-inner-in-{name}.ensures.read"))
-            body += [answer(f"returns-in_err-inner-in-{name}-clause-taken",
+            body += [answer(f"returns-in_err-inner-in-{name}-clause-taken", "c",
                             f"{NEXT}\n    {told(step)}\n    ({lemma_call} {taken.format('in_err')})"),
-                     answer(f"returns-in_ok-inner-in-{name}-clause-taken",
+                     answer(f"returns-in_ok-inner-in-{name}-clause-taken", "c",
                             f"{NEXT}\n    {lemma_call} {taken.format('in_ok')}")]
         else:
             lemma_call = f"word_next {front} value held more e"
-            body += [answer(f"returns-in_err-expect-in-{name}-clause-taken",
+            body += [answer(f"returns-in_err-expect-in-{name}-clause-taken", "c",
                             f"{NEXT}\n    absurd (c.in_err-expect-in-{name}.ensures more ({lemma_call}))"),
-                     answer(f"returns-in_ok-expect-in-{name}-clause-taken",
+                     answer(f"returns-in_ok-expect-in-{name}-clause-taken", "c",
                             f'{NEXT}\n    after (codes "\\"{name}\\"") (sym c.in_ok-expect-in-{name}.ensures ∙ {lemma_call})')]
     nots = " ".join(f"c.in_default.not-{name}" for name, _ in kind.parts)
-    body.append(answer("returns-in_default-clause-taken",
+    body.append(answer("returns-in_default-clause-taken", "c",
                        f"{NEXT}\n    absurd ({enum.name}_other value _ {nots}\n"
                        f"    (c.next_name.ensures ({code} value) ({enum.name}_plain value) more e))"))
     text = "\n".join(body)

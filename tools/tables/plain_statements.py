@@ -102,7 +102,7 @@ def changed_variants(table):
                    [*clauses, ("s", "c.simple s")])
 
 
-def changed_struct(table, kind):
+def changed_struct(kind):
     """The change of a struct."""
     made, parts = CONSTRUCTED[kind.name].split()[0], variables(kind)
     values = [f"({change(held)} {name})" for name, held in parts.items()]
@@ -127,7 +127,7 @@ def changed_several(held):
 def changes(table, structs, lists):
     """A change, and what is changed by it."""
     lines = [*NODES.splitlines(), "", *changed_variants(table)]
-    lines += [line for kind in structs for line in changed_struct(table, kind)]
+    lines += [line for kind in structs for line in changed_struct(kind)]
     lines += [line for held in lists for line in changed_several(held)]
     return [*CHANGE.splitlines(), *mutual(lines)]
 

@@ -4,7 +4,6 @@ from cycle_parts import LIBRARY, imports
 from names_defined import owners
 from node_table import TABLE, snake
 from plain_trees import CONSTRUCTED, RENAMED, constructor, is_apart
-from tree_terms import bracketed
 
 HERE = "Rattle.wgsl_tree_renamed"
 WRITTEN = f"-- Written by tools/tables/renamed_trees.py from {TABLE}."

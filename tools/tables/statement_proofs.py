@@ -130,7 +130,6 @@ def loop_answers(cycle, kind):
 def variant_answers(cycle, kind):
     """That each variant is written."""
     names, enum = set(), f"write_{snake(kind.name)}"
-    code = f"{coded(kind.name)} ({snake(kind.name)}_view"
 
     def step(call, arm):
         if call not in names:

@@ -277,16 +277,15 @@ def main():
     table = Table()
     cycle = Cycle(table)
     names_texts(table)
-    root = cycle.by_name[ROOT]
     answers = [*nested_answers(cycle), *(struct_answer(cycle, it) for it in cycle.kinds[1:])]
     for kind in cycle.kinds[1:]:
         answers += statement_taken.struct_answers(cycle, kind)
     for at, (name, _) in enumerate(parted(cycle)[0]):
         answers += statement_taken.nested_answers(name, at)
-    answers += statement_taken.default_answers(root, parted(cycle)[0])
+    answers += statement_taken.default_answers(parted(cycle)[0])
     answers += statement_taken.node_answers()
     for held in cycle.optional:
-        answers += statement_taken.optional_answers(reader(cycle, held), coded(OWN[held][0]), held)
+        answers += statement_taken.optional_answers(reader(cycle, held), coded(OWN[held][0]))
     for held in cycle.lists:
         own = coded(OWN[held][0])
         answers += statement_taken.list_answers(

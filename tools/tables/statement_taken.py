@@ -4,7 +4,7 @@ from pathlib import Path
 
 from form_answers import HERE, answer, counted, read
 from form_taken import Enum, code_uses, told
-from node_table import TABLE, snake
+from node_table import snake
 from plain_trees import CONSTRUCTED, OWN, RENAMED, coded, is_apart
 from tree_terms import Codes, applied
 
@@ -222,7 +222,7 @@ def nested_answers(name, at):
                      f"{NEXT} {outer.replace('{}', f'{front} (λ y h f. {term}) e')}")
 
 
-def optional_answers(name, code, held):
+def optional_answers(name, code):
     """The answers for a part that may be left out: its form is not `null` where it is there."""
     item = name.replace("optional_", "")
     call = f"{code.removesuffix('_code')}_next value held _ _ more (c.if-eat.ensures.refused refl) (λ y h f. {{}}) e"
@@ -270,7 +270,7 @@ def list_answers(name, item, code, lemma, own, codes):
                  f" (c.in_ok-{item}.{taken}))")
 
 
-def default_answers(kind, nested):
+def default_answers(nested):
     """The answer for a statement without others."""
     nots = " ".join(f"c.in_default.not-{name}" for name, _ in nested)
     yield answer("read_statement-returns-in_default-clause-taken", "t c",

@@ -260,7 +260,7 @@ def plain_doc(doc):
     return doc[0].lower() + doc[1:].rstrip(".")
 
 
-def file_text(table, name, what, module, made, homes):
+def file_text(table, what, module, made, homes):
     """The text of a file."""
     docs = {coded(kind.name): f"-- {plain_doc(kind.doc)}\n" for kind in table.kinds}
     body = []
@@ -298,7 +298,7 @@ def main():
     for name, what, module, kinds in files(table):
         made = list(functions(table, kinds))
         homes |= {it.name: name for it in made}
-        (SPECS / f"{name}.antt").write_text(file_text(table, name, what, module, made, homes))
+        (SPECS / f"{name}.antt").write_text(file_text(table, what, module, made, homes))
 
 
 if __name__ == "__main__":

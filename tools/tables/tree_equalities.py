@@ -24,7 +24,6 @@ ROOTS = ["Statement"]
 WRITTEN = f"Written by tools/tables/tree_equalities.py from {TABLE}"
 COMMON = "Rattle.std.proofs.Common"
 SIMPLE = "Rattle.wgsl_tree_simple.proofs.Equalities"
-ATTRIBUTE = "Rattle.wgsl_tree_attribute.proofs.Equalities"
 SAME = re.compile(r"^pub (\w+_same) : \(a b : (\w+)\)", re.M)
 
 

@@ -5,7 +5,7 @@ from dataclasses import dataclass
 from pathlib import Path
 
 from antt import source
-from node_table import separated, snake
+from node_table import separated
 from plain_trees import CONSTRUCTED, OWN, RENAMED, coded, is_apart
 from tree_codes import groups
 
