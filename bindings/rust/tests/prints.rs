@@ -135,7 +135,7 @@ macro_rules! prints {
 // after the macros that it uses
 mod node_prints;
 
-/// The list of what is printed, in which a line is a kind of node and how it is.
+/// The list of what is printed, in which each indented line begins with a kind of node.
 const LIST: &str = include_str!("../src/syntax/prints/node_prints.rs");
 
 /// A text with each kind of node.
@@ -147,8 +147,8 @@ fn each_kind_of_node_prints_to_a_text_that_parses_to_it() {
     unit.remove_voids();
     let mut prints = Prints::default();
     unit.accept(&mut prints);
-    let lines = LIST.lines().filter_map(|line| line.split_once(" = "));
-    let listed = lines.map(|(name, _)| name.trim());
+    let lines = LIST.lines().filter_map(|line| line.strip_prefix("    "));
+    let listed = lines.filter_map(|line| line.split(' ').next());
     let wanted: BTreeSet<_> = listed.chain(["TemplateArg"]).collect();
     assert_eq!(prints.0, wanted);
 }
