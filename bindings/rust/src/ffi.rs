@@ -2,8 +2,9 @@
 //!
 //! What a call requires, as `wgsl.h` says, is what Rust's references give: memory that can be read
 //! or written, is apart and stays as it is for the call. Of the stack, each level of nesting
-//! takes at most 2,900 bytes as measured, so that a text which nests too deep reaches the guard
-//! page at the end of the stack, as a recursion of Rust's does, and ends the process.
+//! takes at most 2,900 bytes as measured, and no function takes a page at once, as
+//! tools/library_tests checks: so a text which nests too deep reaches the guard page at the end of
+//! the stack, as a recursion of Rust's does, and ends the process.
 
 /// The result of a call beside its status: `struct wgsl_answer` of `wgsl.h`.
 #[repr(C)]
@@ -210,7 +211,7 @@ pub fn bytes_call(call: Call<'_>, text: &[u8], room: &mut Vec<u8>) -> Said {
     // are those of a slice, a `&str` and a `&mut Vec`, which are never null, are apart from each
     // other and from the answer, and are borrowed for the call, and no slice of Rust's is longer
     // than the exports take; the layout lives as long as the call. An export requires nothing
-    // else, does not read the buffer, and writes nowhere else.
+    // else but stack, as said above, does not read the buffer, and writes nowhere else.
     let status = unsafe {
         match call {
             Call::Format => wgsl_c_format(at, size, to, room_size, &mut answer),
