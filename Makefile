@@ -62,7 +62,8 @@ test:
 	@tools/prove_all $(ANEW) || { echo "Failed: tools/prove_all, as above."; exit 1; }
 	@echo "All passed."
 
-# The tests of make test that need no prover, but for the static library, over what it proved.
+# The tests of make test that need no prover, but for the static library, over what it proved. Where
+# wgslfmt fails, a line feed is added, so that what it writes is no printed file.
 programs:
 	@cd examples && for shader in *.wgsl printed/*.wgsl; do \
 	    { ../crates/wgslfmt/out/wgslfmt < $$shader || echo; } | cmp - printed/$${shader##*/} \
