@@ -200,10 +200,12 @@ def token_table(table):
 
 
 def write_bindings(table):
-    """The kinds of tokens and comments of the Rust crate and of the header, there with their
-    names."""
+    """The kinds of tokens and comments of the Rust crate, with the texts of symbols and keywords,
+    and of the header, there with their names."""
     named = [*((token.name, token.doc) for token in table.tokens), OPEN_COMMENT]
-    kinds = [f"    /// {doc[0].upper()}{doc[1:]}.\n    {name}," for name, doc in named]
+    texts = {token.name: f' = "{token.text}"' for token in [*table.symbols, *table.keywords]}
+    kinds = [f"    /// {doc[0].upper()}{doc[1:]}.\n    {name}{texts.get(name, '')},"
+             for name, doc in named]
     numbers = [f"    WGSL_{snake(name).upper()} = {number}"
                for number, (name, _) in enumerate(named)]
     fill(RUST_KINDS, "\nkinds! {\n", "\n".join([f"    // {WRITTEN}.", *kinds]), "\n}\n")

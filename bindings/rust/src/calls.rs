@@ -183,7 +183,7 @@ pub struct Token {
 /// # Ok::<(), centrelilac::Fault>(())
 /// ```
 pub fn tokens(text: &str) -> Result<Vec<Token>, Fault> {
-    placed_tokens(text, false)
+    all_tokens(text, false)
 }
 
 /// Returns the tokens of a text and the comments between them, in order. A line comment ends before
@@ -208,18 +208,53 @@ pub fn tokens(text: &str) -> Result<Vec<Token>, Fault> {
 /// # Ok::<(), centrelilac::Fault>(())
 /// ```
 pub fn tokens_with_comments(text: &str) -> Result<Vec<Token>, Fault> {
+    all_tokens(text, true)
+}
+
+/// Returns the tokens of a text and the comments between them, as [`tokens_with_comments`] does, up
+/// to its first invalid token, and the fault of that if there is one. If allocation fails, there
+/// are no tokens, and the fault says so.
+///
+/// # Examples
+///
+/// ```
+/// use centrelilac::TokenKind;
+///
+/// let (tokens, fault) = centrelilac::tokens_before_fault("let a = #;");
+/// assert_eq!(tokens.len(), 3);
+/// assert!(tokens[0].kind.is_keyword());
+/// assert_eq!(tokens[2].kind, TokenKind::SymEqual);
+/// assert_eq!(fault.map(|fault| fault.column), Some(9));
+///
+/// let (tokens, fault) = centrelilac::tokens_before_fault("a // b");
+/// assert_eq!((tokens.len(), fault), (2, None));
+/// ```
+#[must_use]
+pub fn tokens_before_fault(text: &str) -> (Vec<Token>, Option<Fault>) {
     placed_tokens(text, true)
 }
 
-/// Returns the tokens of a text, with the comments between them or without.
-fn placed_tokens(text: &str, comments: bool) -> Result<Vec<Token>, Fault> {
-    let call = |items: &mut [PlacedKind]| tokens_call(text, comments, items);
-    let (said, items) = listed(text.len() / 3 + 16, call).ok_or_else(Fault::out_of_memory)?;
-    match said.status {
-        DONE => Ok(items.into_iter().map(Token::from).collect()),
-        REFUSED => Err(Fault::told(text, &said.answer, b"invalid token")),
-        _ => Err(Fault::out_of_memory()),
+/// Returns the tokens of a text without a fault, with the comments between them or without.
+fn all_tokens(text: &str, comments: bool) -> Result<Vec<Token>, Fault> {
+    match placed_tokens(text, comments) {
+        (tokens, None) => Ok(tokens),
+        (_, Some(fault)) => Err(fault),
     }
+}
+
+/// Returns the tokens of a text up to its fault, with the comments between them or without, and the
+/// fault.
+fn placed_tokens(text: &str, comments: bool) -> (Vec<Token>, Option<Fault>) {
+    let call = |items: &mut [PlacedKind]| tokens_call(text, comments, items);
+    let Some((said, items)) = listed(text.len() / 3 + 16, call) else {
+        return (Vec::new(), Some(Fault::out_of_memory()));
+    };
+    let fault = match said.status {
+        DONE => None,
+        REFUSED => Some(Fault::told(text, &said.answer, b"invalid token")),
+        _ => return (Vec::new(), Some(Fault::out_of_memory())),
+    };
+    (items.into_iter().map(Token::from).collect(), fault)
 }
 
 impl From<PlacedKind> for Token {

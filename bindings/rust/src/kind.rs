@@ -2,11 +2,10 @@
 
 /// The kinds, in the order of their numbers.
 macro_rules! kinds {
-    ($($(#[$note:meta])* $kind:ident,)*) => {
+    ($($(#[$note:meta])* $kind:ident $(= $text:literal)?,)*) => {
         /// The kind of a token or a comment, without what it holds. The kinds are in the order of
-        /// their numbers in `wgsl.h`. Only
-        /// [`tokens_with_comments`](crate::tokens_with_comments) returns comments.
-        #[derive(Clone, Copy, Debug, PartialEq, Eq, Hash)]
+        /// their numbers in `wgsl.h`. [`tokens`](crate::tokens) returns no comments.
+        #[derive(Clone, Copy, Debug, PartialEq, Eq, PartialOrd, Ord, Hash)]
         pub enum TokenKind {
             $($(#[$note])* $kind,)*
         }
@@ -15,171 +14,227 @@ macro_rules! kinds {
             /// The kinds by their numbers.
             pub(crate) const ALL: &'static [TokenKind] = &[$(TokenKind::$kind),*];
 
-            /// Returns whether it is a comment.
+            /// Returns the text of each symbol or keyword of this kind, and `None` for other kinds.
             ///
             /// ```
             /// use centrelilac::TokenKind;
             ///
-            /// assert!(TokenKind::LineComment.is_comment());
-            /// assert!(!TokenKind::SymForwardSlash.is_comment());
+            /// assert_eq!(TokenKind::SymArrow.text(), Some("->"));
+            /// assert_eq!(TokenKind::KwFn.text(), Some("fn"));
+            /// assert_eq!(TokenKind::Ident.text(), None);
             /// ```
             #[must_use]
-            pub fn is_comment(self) -> bool {
-                matches!(
-                    self,
-                    TokenKind::LineComment | TokenKind::BlockComment | TokenKind::OpenComment
-                )
+            pub fn text(self) -> Option<&'static str> {
+                match self {
+                    $($(TokenKind::$kind => Some($text),)?)*
+                    _ => None,
+                }
             }
         }
     };
 }
 
+impl TokenKind {
+    /// Returns whether it is a comment.
+    ///
+    /// ```
+    /// use centrelilac::TokenKind;
+    ///
+    /// assert!(TokenKind::LineComment.is_comment());
+    /// assert!(!TokenKind::SymForwardSlash.is_comment());
+    /// ```
+    #[must_use]
+    pub fn is_comment(self) -> bool {
+        self >= TokenKind::LineComment
+    }
+
+    /// Returns whether it is a symbol. The `<` and `>` of a template list are none.
+    ///
+    /// ```
+    /// use centrelilac::TokenKind;
+    ///
+    /// assert!(TokenKind::SymLessThan.is_symbol());
+    /// assert!(!TokenKind::TemplateArgsStart.is_symbol());
+    /// ```
+    #[must_use]
+    pub fn is_symbol(self) -> bool {
+        self < TokenKind::KwAlias
+    }
+
+    /// Returns whether it is a keyword. Neither a reserved word nor a word that is a keyword only in
+    /// places, as `compute`, is one.
+    ///
+    /// ```
+    /// use centrelilac::TokenKind;
+    ///
+    /// assert!(TokenKind::KwTrue.is_keyword());
+    /// assert!(!TokenKind::ReservedWord.is_keyword());
+    /// ```
+    #[must_use]
+    pub fn is_keyword(self) -> bool {
+        (TokenKind::KwAlias..TokenKind::Ident).contains(&self)
+    }
+
+    /// Returns whether it is a number, with a suffix or without.
+    ///
+    /// ```
+    /// use centrelilac::TokenKind;
+    ///
+    /// assert!(TokenKind::F32.is_numeric_literal());
+    /// assert!(!TokenKind::KwTrue.is_numeric_literal());
+    /// ```
+    #[must_use]
+    pub fn is_numeric_literal(self) -> bool {
+        (TokenKind::AbstractInt..=TokenKind::F16).contains(&self)
+    }
+}
+
 kinds! {
     // Written by tools/tables/tokens.py from crates/wgsl_model/tokens.
     /// The symbol `&`.
-    SymAnd,
+    SymAnd = "&",
     /// The symbol `&&`.
-    SymAndAnd,
+    SymAndAnd = "&&",
     /// The symbol `->`.
-    SymArrow,
+    SymArrow = "->",
     /// The symbol `@`.
-    SymAttr,
+    SymAttr = "@",
     /// The symbol `/`.
-    SymForwardSlash,
+    SymForwardSlash = "/",
     /// The symbol `!`.
-    SymBang,
+    SymBang = "!",
     /// The symbol `[`.
-    SymBracketLeft,
+    SymBracketLeft = "[",
     /// The symbol `]`.
-    SymBracketRight,
+    SymBracketRight = "]",
     /// The symbol `{`.
-    SymBraceLeft,
+    SymBraceLeft = "{",
     /// The symbol `}`.
-    SymBraceRight,
+    SymBraceRight = "}",
     /// The symbol `:`.
-    SymColon,
+    SymColon = ":",
     /// The symbol `,`.
-    SymComma,
+    SymComma = ",",
     /// The symbol `=`.
-    SymEqual,
+    SymEqual = "=",
     /// The symbol `==`.
-    SymEqualEqual,
+    SymEqualEqual = "==",
     /// The symbol `!=`.
-    SymNotEqual,
+    SymNotEqual = "!=",
     /// The symbol `>`.
-    SymGreaterThan,
+    SymGreaterThan = ">",
     /// The symbol `>=`.
-    SymGreaterThanEqual,
+    SymGreaterThanEqual = ">=",
     /// The symbol `>>`.
-    SymShiftRight,
+    SymShiftRight = ">>",
     /// The symbol `<`.
-    SymLessThan,
+    SymLessThan = "<",
     /// The symbol `<=`.
-    SymLessThanEqual,
+    SymLessThanEqual = "<=",
     /// The symbol `<<`.
-    SymShiftLeft,
+    SymShiftLeft = "<<",
     /// The symbol `%`.
-    SymModulo,
+    SymModulo = "%",
     /// The symbol `-`.
-    SymMinus,
+    SymMinus = "-",
     /// The symbol `--`.
-    SymMinusMinus,
+    SymMinusMinus = "--",
     /// The symbol `.`.
-    SymPeriod,
+    SymPeriod = ".",
     /// The symbol `+`.
-    SymPlus,
+    SymPlus = "+",
     /// The symbol `++`.
-    SymPlusPlus,
+    SymPlusPlus = "++",
     /// The symbol `|`.
-    SymOr,
+    SymOr = "|",
     /// The symbol `||`.
-    SymOrOr,
+    SymOrOr = "||",
     /// The symbol `(`.
-    SymParenLeft,
+    SymParenLeft = "(",
     /// The symbol `)`.
-    SymParenRight,
+    SymParenRight = ")",
     /// The symbol `;`.
-    SymSemicolon,
+    SymSemicolon = ";",
     /// The symbol `*`.
-    SymStar,
+    SymStar = "*",
     /// The symbol `~`.
-    SymTilde,
+    SymTilde = "~",
     /// The symbol `_`.
-    SymUnderscore,
+    SymUnderscore = "_",
     /// The symbol `^`.
-    SymXor,
+    SymXor = "^",
     /// The symbol `+=`.
-    SymPlusEqual,
+    SymPlusEqual = "+=",
     /// The symbol `-=`.
-    SymMinusEqual,
+    SymMinusEqual = "-=",
     /// The symbol `*=`.
-    SymTimesEqual,
+    SymTimesEqual = "*=",
     /// The symbol `/=`.
-    SymDivisionEqual,
+    SymDivisionEqual = "/=",
     /// The symbol `%=`.
-    SymModuloEqual,
+    SymModuloEqual = "%=",
     /// The symbol `&=`.
-    SymAndEqual,
+    SymAndEqual = "&=",
     /// The symbol `|=`.
-    SymOrEqual,
+    SymOrEqual = "|=",
     /// The symbol `^=`.
-    SymXorEqual,
+    SymXorEqual = "^=",
     /// The symbol `>>=`.
-    SymShiftRightAssign,
+    SymShiftRightAssign = ">>=",
     /// The symbol `<<=`.
-    SymShiftLeftAssign,
+    SymShiftLeftAssign = "<<=",
     /// The keyword `alias`.
-    KwAlias,
+    KwAlias = "alias",
     /// The keyword `break`.
-    KwBreak,
+    KwBreak = "break",
     /// The keyword `case`.
-    KwCase,
+    KwCase = "case",
     /// The keyword `const`.
-    KwConst,
+    KwConst = "const",
     /// The keyword `const_assert`.
-    KwConstAssert,
+    KwConstAssert = "const_assert",
     /// The keyword `continue`.
-    KwContinue,
+    KwContinue = "continue",
     /// The keyword `continuing`.
-    KwContinuing,
+    KwContinuing = "continuing",
     /// The keyword `default`.
-    KwDefault,
+    KwDefault = "default",
     /// The keyword `diagnostic`.
-    KwDiagnostic,
+    KwDiagnostic = "diagnostic",
     /// The keyword `discard`.
-    KwDiscard,
+    KwDiscard = "discard",
     /// The keyword `else`.
-    KwElse,
+    KwElse = "else",
     /// The keyword `enable`.
-    KwEnable,
+    KwEnable = "enable",
     /// The keyword `false`.
-    KwFalse,
+    KwFalse = "false",
     /// The keyword `fn`.
-    KwFn,
+    KwFn = "fn",
     /// The keyword `for`.
-    KwFor,
+    KwFor = "for",
     /// The keyword `if`.
-    KwIf,
+    KwIf = "if",
     /// The keyword `let`.
-    KwLet,
+    KwLet = "let",
     /// The keyword `loop`.
-    KwLoop,
+    KwLoop = "loop",
     /// The keyword `override`.
-    KwOverride,
+    KwOverride = "override",
     /// The keyword `requires`.
-    KwRequires,
+    KwRequires = "requires",
     /// The keyword `return`.
-    KwReturn,
+    KwReturn = "return",
     /// The keyword `struct`.
-    KwStruct,
+    KwStruct = "struct",
     /// The keyword `switch`.
-    KwSwitch,
+    KwSwitch = "switch",
     /// The keyword `true`.
-    KwTrue,
+    KwTrue = "true",
     /// The keyword `var`.
-    KwVar,
+    KwVar = "var",
     /// The keyword `while`.
-    KwWhile,
+    KwWhile = "while",
     /// An identifier.
     Ident,
     /// A reserved word.
@@ -206,4 +261,37 @@ kinds! {
     BlockComment,
     /// A block comment that is not closed.
     OpenComment,
+}
+
+#[cfg(test)]
+mod tests {
+    use super::TokenKind;
+
+    /// The kinds that a method is true of.
+    fn count(is: impl Fn(TokenKind) -> bool) -> usize {
+        TokenKind::ALL.iter().filter(|kind| is(**kind)).count()
+    }
+
+    #[test]
+    fn kinds_are_told_apart() {
+        assert_eq!(count(TokenKind::is_symbol), 46);
+        assert_eq!(count(TokenKind::is_keyword), 26);
+        assert_eq!(count(TokenKind::is_numeric_literal), 6);
+        assert_eq!(count(TokenKind::is_comment), 3);
+        for kind in TokenKind::ALL {
+            let has_text = kind.is_symbol() || kind.is_keyword();
+            assert_eq!(kind.text().is_some(), has_text, "{kind:?}");
+        }
+    }
+
+    #[test]
+    fn texts_are_tokens_of_their_kinds() {
+        for kind in TokenKind::ALL {
+            if let Some(text) = kind.text() {
+                let tokens = crate::tokens(text).expect(text);
+                let found: Vec<_> = tokens.iter().map(|token| token.kind).collect();
+                assert_eq!(found, [*kind], "{text}");
+            }
+        }
+    }
 }

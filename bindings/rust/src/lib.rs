@@ -53,7 +53,7 @@ mod words;
 
 pub use calls::{
     begins_with_template_list, check, format, nesting, parse, recognize, template_lists, tokens,
-    tokens_with_comments, Token,
+    tokens_before_fault, tokens_with_comments, Token,
 };
 pub use fault::{Fault, Fault as Error, FaultKind};
 pub use kind::TokenKind;

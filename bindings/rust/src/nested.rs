@@ -7,6 +7,7 @@
 mod code;
 mod copies;
 mod drops;
+mod forms;
 mod parts;
 
 use crate::form::Kind;
@@ -16,6 +17,7 @@ use crate::visit::Accept;
 pub use code::{feed, same, Code, Coded};
 pub use copies::{copy, Copies};
 pub use drops::drop_node;
+pub use forms::{joined, Partial};
 pub use parts::Parts;
 
 /// An expression or a statement, which may nest.

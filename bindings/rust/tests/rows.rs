@@ -127,6 +127,11 @@ fn check_tokens(row: &Row) {
             check_place(row, text, &fault);
             let other = centrelilac::tokens_with_comments(text).expect_err(&row.place);
             assert_eq!(other, fault, "{}", row.place);
+            let (before, other) = centrelilac::tokens_before_fault(text);
+            assert_eq!(other, Some(fault), "{}", row.place);
+            let found = before.iter().filter(|item| !item.kind.is_comment());
+            let found: Vec<_> = found.map(|token| token.span.to_string()).collect();
+            assert_eq!(found, places[..places.len() - 1], "{}", row.place);
         }
     }
 }

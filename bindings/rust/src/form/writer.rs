@@ -1,10 +1,9 @@
 //! A form that is written from its front, with the same stack however deep its tree is.
 
 use super::sealed::Written;
-use crate::nested::Inner;
+use crate::nested::{joined, Inner, Partial};
 use crate::span::Span;
 use std::fmt::Write;
-use std::vec::IntoIter;
 
 /// How many expressions and statements are written inside one another. What nests deeper is
 /// written by itself, and put into the form at the end.
@@ -67,40 +66,19 @@ impl<'t> Writer<'t> {
         if self.later.is_empty() {
             return self.form;
         }
-        let mut form = String::new();
-        let mut open = vec![Part::new(self)];
-        while let Some(part) = open.last_mut() {
-            match part.later.next() {
-                Some((at, inner)) => {
-                    form.push_str(&part.form[part.done..at]);
-                    part.done = at;
-                    let mut writer = Writer::default();
-                    writer.inner(inner);
-                    open.push(Part::new(writer));
-                }
-                None => {
-                    form.push_str(&part.form[part.done..]);
-                    open.pop();
-                }
-            }
-        }
-        form
+        let form = joined(self.partial(), |inner| {
+            let mut writer = Writer::default();
+            writer.inner(inner);
+            writer.partial()
+        });
+        String::from_utf8(form).expect("a form is UTF-8")
     }
-}
 
-/// A part of a form, of which a beginning is done.
-struct Part<'t> {
-    form: String,
-    done: usize,
-    later: IntoIter<(usize, Inner<'t>)>,
-}
-
-impl<'t> Part<'t> {
-    fn new(writer: Writer<'t>) -> Self {
-        Part {
-            form: writer.form,
-            done: 0,
-            later: writer.later.into_iter(),
+    /// Returns what is written and what is left out.
+    fn partial(self) -> Partial<Inner<'t>> {
+        Partial {
+            form: self.form.into_bytes(),
+            later: self.later,
         }
     }
 }

@@ -7,10 +7,10 @@ mod units;
 
 use super::rules::*;
 use super::DEEPEST;
+use crate::nested::{joined, Partial};
 use crate::span::Span;
 use crate::syntax::Ident;
 use expressions::Link;
-use std::vec::IntoIter;
 
 /// A node that has a packed form.
 pub trait Packed {
@@ -59,27 +59,20 @@ impl<'t> Writer<'t> {
 
     /// Returns the form with all that is left out.
     pub fn finish(self) -> Vec<u8> {
-        if self.later.is_empty() {
-            return self.form;
+        let has_spans = self.has_spans;
+        joined(self.partial(), |write| {
+            let mut writer = Writer::new(has_spans);
+            write(&mut writer);
+            writer.partial()
+        })
+    }
+
+    /// Returns what is written and what is left out.
+    fn partial(self) -> Partial<Write<'t>> {
+        Partial {
+            form: self.form,
+            later: self.later,
         }
-        let (has_spans, mut form) = (self.has_spans, Vec::new());
-        let mut open = vec![Part::new(self)];
-        while let Some(part) = open.last_mut() {
-            match part.later.next() {
-                Some((at, write)) => {
-                    form.extend_from_slice(&part.form[part.done..at]);
-                    part.done = at;
-                    let mut writer = Writer::new(has_spans);
-                    write(&mut writer);
-                    open.push(Part::new(writer));
-                }
-                None => {
-                    form.extend_from_slice(&part.form[part.done..]);
-                    open.pop();
-                }
-            }
-        }
-        form
     }
 
     /// Writes the number of a rule.
@@ -165,23 +158,6 @@ impl<'t> Writer<'t> {
                 self.rule(rule);
                 write(self, part);
             }
-        }
-    }
-}
-
-/// A part of a form, of which a beginning is done.
-struct Part<'t> {
-    form: Vec<u8>,
-    done: usize,
-    later: IntoIter<(usize, Write<'t>)>,
-}
-
-impl<'t> Part<'t> {
-    fn new(writer: Writer<'t>) -> Self {
-        Part {
-            form: writer.form,
-            done: 0,
-            later: writer.later.into_iter(),
         }
     }
 }

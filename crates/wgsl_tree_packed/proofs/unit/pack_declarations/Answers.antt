@@ -1,4 +1,5 @@
-use Rattle.std.proofs.Common.{◌≡◌, refl, sym, ap, ◌∙◌, arith, List, [], ◌∷◌, ◌++◌, length, true, false}
+use Rattle.std.proofs.Common.{◌≡◌, sym, ap, ◌∙◌, arith, List, [], ◌∷◌, ◌++◌, length, true, false}
+use Rattle.std.proofs.lemmas.List.{nil_from_length}
 use Rattle.std.specs.Vec.Iter.{into_iter_items}
 use Rattle.wgsl_model.specs.Printed.Units.{is_void}
 use Rattle.wgsl_model_packed.specs.Printing.{packed_span}
@@ -8,11 +9,6 @@ use Rattle.wgsl_span.specs.View.{span_view}
 use Rattle.wgsl_tree_unit.specs.View.{global_declaration_view}
 use Rattle.wgsl_tree_packed.proofs.Units.{left_after, declaration_written, void_written}
 use Rattle.wgsl_tree_packed.proofs.unit.pack_declarations.Goals as goal
-
--- nothing is left
-none_left : {X : Type 0} (xs : List X) → length xs ≡ 0 → xs ≡ []
-none_left [] h = refl
-none_left (x ∷ xs) h = absurd (omega arith)
 
 pub declarations-preserved-then-is_void : goal.declarations-preserved-then-is_void
 declarations-preserved-then-is_void c =
@@ -54,7 +50,7 @@ pub returns : goal.returns
 returns c =
     let at = c.declarations in
     let empty : into_iter_items at.item-iterator ≡ [] =
-    none_left _ (sym at.invariant.1 ∙ c.in-None.ensures.steps.0) in
+    nil_from_length _ (sym at.invariant.1 ∙ c.in-None.ensures.steps.0) in
     c.in_ok-pack_rule.ensures ∙ ap (λ xs. at.out.items ++ left_after at.rule xs) (sym empty)
     ∙ at.invariant.0 ∙ ap (λ xs. c.args.out.now.items ++ left_after first_declaration_rule xs)
     c.into_iter-item-iterator.ensures.into_iter_gives.0
