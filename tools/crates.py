@@ -45,9 +45,15 @@ def files_of(crate):
     return [TOP / "crates.txt", *(it for it in inside if it.is_file())]
 
 
+@cache
+def version():
+    """The line that identifies the kit and its logic."""
+    return subprocess.run(["rt", "version"], capture_output=True, text=True, check=True).stdout
+
+
 def sum_of(files):
     """The kit and some files, as one sum."""
-    found = hashlib.sha256(subprocess.run(["rt", "version"], capture_output=True).stdout)
+    found = hashlib.sha256(version().encode())
     for file in sorted(set(files)):
         text = hashlib.sha256(file.read_bytes()).hexdigest()
         found.update(f"{file.relative_to(TOP)} {text}\n".encode())

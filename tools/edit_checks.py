@@ -6,22 +6,15 @@ it calls one that fails. All other functions, which `rt ci` proves, are taken by
 (see stubs.py). A second body of a function is put into a copy of that function beside it, with its
 proof. Bodies for which there can be no copy, or that it does not show to be refused, are tried in
 further checks over what the first one proved, in their functions themselves, and of these alone.
-What was refused is kept below the user's cache folder, by the sums of everything that was read, so
-a later run tries only what changed. A body that is refused only since a proof names what the body
-takes away is told from the others: a change of a value that keeps the names says more of the
-contract.
+A body that is refused only since a proof names what the body takes away is told from the others: a
+change of a value that keeps the names says more of the contract.
 """
-import hashlib
 import json
 import os
 import re
 import shutil
 import subprocess
-import tempfile
-from collections import Counter
 from enum import Enum
-from functools import cache
-from pathlib import Path
 
 import crates
 from stubs import Stub, put_proofs, stubs_of
@@ -30,9 +23,6 @@ from wrong_bodies import (
 )
 
 CRATES = crates.TOP / "crates"
-KEPT = Path(os.environ.get("XDG_CACHE_HOME") or Path.home() / ".cache") / "wgsl_parse" / "edits"
-# how many files are kept there, the newest
-MOST_KEPT = 500
 
 # what the prover says of a function, and of a goal in a file of its proof
 LINE = re.compile(r"^fn \w+::(\S+): (.*)$", re.MULTILINE)
@@ -112,9 +102,12 @@ class Tried:
     def __init__(self, crate, lines, libraries):
         self.crate, self.lines, self.libraries = crate, lines, libraries
         self.folder = CRATES / crate
-        self.bodies, self.verdicts, self.seconds = bodies_of(self.folder), {}, []
+        self.bodies, self.verdicts = bodies_of(self.folder), {}
+        # how many were tried, and the seconds that each check took
+        self.count, self.seconds = 0, []
         self.calls, self.reaches = calls_of(crate, lines, libraries), {}
         self.names, self.has_stubs = set(self.calls), True
+        self.stubs = stubs_of(self.folder, self.names)
         for body in self.bodies:
             try:
                 place(body, self.folder, self.names)
@@ -132,6 +125,7 @@ class Tried:
     def run(self, room):
         """Tries what is left until each body has a verdict; those that are not refused beside stubs
         are tried once more without these."""
+        self.count = len(self.left())
         self.try_left(room)
         if wrong := [body for body, _ in self.told(*IS_REFUSED) if body.hunks and self.has_stubs]:
             self.has_stubs = False
@@ -198,7 +192,9 @@ class Tried:
     def check(self, bodies, room):
         """What the prover says of the functions of some bodies, in a copy of the crate with these,
         and where each is there."""
-        stubs = self.stubs(bodies) if self.has_stubs else []
+        wrong = self.with_cycles({path for body in bodies for path in body.functions})
+        # the prover refuses an attribute that names a cycle which a stub is not in
+        stubs = [it for it in self.stubs_beside(wrong) if not it.cycle and self.has_stubs]
         texts, places = joined([*bodies, *stubs], self.folder)
         at = room / "crate"
         shutil.rmtree(at, ignore_errors=True)
@@ -225,12 +221,15 @@ class Tried:
             return self.check(bodies, room)
         return said, places
 
-    def stubs(self, bodies):
-        """Stubs of the functions that none of some wrong bodies is in, nor is in a cycle of calls
-        with one of these."""
-        wrong = {path for body in bodies for path in body.functions}
-        cycles = {it for path in wrong for it in self.reached(path) if path in self.reached(it)}
-        return stubs_of(self.folder, self.names, wrong | cycles)
+    def with_cycles(self, functions):
+        """Some functions, and those in a cycle of calls with one of them."""
+        calls = {it for path in functions for it in self.reached(path) if path in self.reached(it)}
+        named = {it.cycle for it in self.stubs if it.cycle and it.functions[0] in functions}
+        return {*functions, *calls, *(it.functions[0] for it in self.stubs if it.cycle in named)}
+
+    def stubs_beside(self, functions):
+        """Stubs of all functions but some."""
+        return [it for it in self.stubs if it.functions[0] not in functions]
 
     def said(self, words, at, file):
         """What the prover writes in a folder, by way of a file; counts the seconds that it takes.
@@ -272,115 +271,3 @@ def calls_of(crate, lines, libraries):
     found = {name.partition("::")[2]: code for name, code in json.loads(file.read_text())}
     named = re.compile(rf'"{crate}::([^"]+)"')
     return {name: found.keys() & {*named.findall(json.dumps(code))} for name, code in found.items()}
-
-
-@cache
-def sum_of(folder):
-    """A sum of the files in a folder."""
-    found = hashlib.sha256()
-    for file in sorted(it for it in folder.rglob("*") if it.is_file()):
-        text = hashlib.sha256(file.read_bytes()).hexdigest()
-        found.update(f"{file.relative_to(folder)} {text}\n".encode())
-    return found.hexdigest()
-
-
-def sum_of_crate(crate, lines, libraries):
-    """A sum of everything that a check of a crate reads, and of what reads its outcome."""
-    version = subprocess.run(["rt", "version"], capture_output=True, text=True).stdout
-    sources = (__file__, crates.__file__, *(it.__code__.co_filename for it in (place, stubs_of)))
-    read = [version, lines[crate], *(Path(it).read_text() for it in sources)]
-    read += [sum_of(CRATES / crate / part) for part in crates.READ]
-    below = crates.with_those_below(crates.named_by(crate, lines)[0], lines)
-    read += [sum_of(crates.rlib(it, libraries)) for it in below]
-    return hashlib.sha256("\n".join(read).encode()).hexdigest()
-
-
-class Kept:
-    """What earlier runs saw refused of a crate, by the sums of the wrong bodies."""
-
-    def __init__(self, crate, lines, libraries):
-        self.file = KEPT / f"{crate}-{sum_of_crate(crate, lines, libraries)}.json"
-
-    def read(self):
-        try:
-            found = json.loads(self.file.read_text())
-            # so that it is among the newest
-            self.file.touch()
-            return found
-        except (OSError, ValueError):
-            return {}
-
-    def write(self, found):
-        try:
-            KEPT.mkdir(parents=True, exist_ok=True)
-            part = self.file.with_suffix(f".{os.getpid()}")
-            part.write_text(json.dumps(found, indent=1))
-            part.replace(self.file)
-        except OSError as error:
-            print(f"note: {self.file} can't be written: {error}")
-
-
-def shrink():
-    """Removes all but the newest of the files that are kept."""
-    files = sorted(KEPT.glob("*"), key=lambda it: it.stat().st_mtime, reverse=True)
-    for file in files[MOST_KEPT:]:
-        file.unlink(missing_ok=True)
-
-
-def body_sum(body):
-    return hashlib.sha256(body.text.encode()).hexdigest()
-
-
-def tried(crate, lines, libraries, anew):
-    """Tries the wrong bodies of a crate of which no earlier run saw the same refused, or all, and
-    prints what became of them."""
-    it, kept = Tried(crate, lines, libraries), Kept(crate, lines, libraries)
-    known = {} if anew else kept.read()
-    for body in it.left():
-        if body_sum(body) in known:
-            verdict, why = known[body_sum(body)]
-            it.verdicts[body.name] = Verdict[verdict], why
-    count = len(it.left())
-    if count:
-        with tempfile.TemporaryDirectory(prefix="edits-") as room:
-            (Path(room) / "kept").mkdir()
-            it.run(Path(room))
-        refused = {
-            body_sum(body): (verdict.name, why) for body in it.bodies
-            for verdict, why in [it.verdicts[body.name]] if verdict in IS_REFUSED
-        }
-        kept.write({**known, **refused})
-    took = " and ".join(f"{seconds:.0f}" for seconds in it.seconds) or "no"
-    told = [f"{crate}: {counted(it)}; {count} tried in {took} s"]
-    for body, (verdict, why) in it.told(Verdict.REFUSED):
-        told.append(f"{crate}/{body.name}: {verdict.value}: {body.wrong} [{why}]")
-    print("\n".join(told), flush=True)
-    return it
-
-
-def counted(it):
-    """How many wrong bodies of a crate came to what."""
-    counts = Counter(verdict for verdict, _ in it.verdicts.values())
-    told = ", ".join(f"{count} {verdict.value}" for verdict, count in counts.items())
-    return f"{len(it.bodies)} wrong bodies, {told}"
-
-
-def size_of(crate):
-    """How many bytes there are to check in a crate."""
-    found = [it for part in ("src", "proofs") for it in (CRATES / crate / part).rglob("*")]
-    return sum(it.stat().st_size for it in found if it.is_file())
-
-
-def with_bodies(lines):
-    """The crates that have wrong bodies, those with the most to check first."""
-    found = [crate for crate in lines if any((CRATES / crate / "must-fail").glob("*.edit"))]
-    return sorted(found, key=size_of, reverse=True)
-
-
-def summed(found):
-    """Prints how many wrong bodies of these crates are refused, and returns whether all are."""
-    shrink()
-    bodies = sum(len(it.bodies) for it in found)
-    wrong = sum(len(it.told(*IS_REFUSED)) for it in found)
-    print(f"{bodies - wrong} of {bodies} wrong bodies are refused, each by itself")
-    return not wrong

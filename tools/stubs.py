@@ -6,7 +6,7 @@ with holes allowed, the prover takes it as proved, and its own body costs nothin
 """
 import re
 import shutil
-from dataclasses import dataclass, replace
+from dataclasses import dataclass
 
 from wrong_bodies import FUNCTION, Body, Hunk, functions_of
 
@@ -21,7 +21,7 @@ unreachable-requires = ?
 
 @dataclass
 class Stub(Body):
-    """A function with a body that is not proved, and the cycle that it is in, if it is in one."""
+    """A function with a body that is not proved, and the cycle that an attribute says it is in."""
 
     cycle: str = ""
 
@@ -39,41 +39,29 @@ def inside(lines, first, last):
 
 
 def cycle_of(lines, first):
-    """The line of the attribute that names the cycle of the function at a line, and its name."""
-    for at in range(first - 1, -1, -1):
-        if found := CYCLE.match(lines[at]):
-            return at, found[1]
-        if not lines[at].strip().startswith(("#[", "///")):
-            return None
-    return None
+    """The cycle that an attribute above the function at a line says it is in."""
+    for line in reversed(lines[:first]):
+        if found := CYCLE.match(line):
+            return found[1]
+        if not line.strip().startswith(("#[", "///")):
+            return ""
+    return ""
 
 
-def functions_with_bodies(folder, names):
-    """The functions of a crate that have one of these names each: its name, its file, its lines,
-    those inside its body, and the line and the name of its cycle, if it is in one."""
+def stubs_of(folder, names):
+    """Stubs of the functions of a crate that have a body and one of these names each."""
+    stubs = []
     for file in sorted((folder / "src").rglob("*.rt")):
         path, text = str(file.relative_to(folder)), file.read_text()
         lines = text.split("\n")
         for first, last, fits in functions_of(path, text, names):
             body = inside(lines, first, last)
             if len(fits) == 1 and body:
-                yield fits[0], path, body, cycle_of(lines, first)
-
-
-def stubs_of(folder, names, kept):
-    """Stubs of the functions of a crate, but of those to be kept and of those that are in a cycle
-    with one of them."""
-    found = list(functions_with_bodies(folder, names))
-    cycles = {cycle[1] for name, _, _, cycle in found if cycle and name in kept}
-    stubs = []
-    for name, path, (first, last), cycle in found:
-        if name in kept or cycle and cycle[1] in cycles:
-            continue
-        blank = (folder / path).read_text().split("\n")[last].removesuffix("}")
-        hunks = [Hunk(path, first, last, (f"{blank}    unreachable!()",))]
-        hunks += [Hunk(path, cycle[0], cycle[0] + 1, ())] if cycle else []
-        stub = Stub("stub", len(stubs), hunks=hunks, functions=[name])
-        stubs.append(replace(stub, cycle=cycle[1]) if cycle else stub)
+                blank = lines[body[1]].removesuffix("}")
+                hunk = Hunk(path, *body, (f"{blank}    unreachable!()",))
+                stub = Stub("stub", len(stubs), hunks=[hunk], functions=fits)
+                stub.cycle = cycle_of(lines, first)
+                stubs.append(stub)
     return stubs
 
 
@@ -82,8 +70,7 @@ def put_proofs(stubs, crate, proofs):
     for stub in stubs:
         name = stub.functions[0]
         at = proofs / name.replace("::", "/")
-        alone = at.parent / f"+{at.name}"
-        for old in [at, alone, *(proofs.rglob(f"+{stub.cycle}") if stub.cycle else [])]:
+        for old in (at, at.parent / f"+{at.name}"):
             shutil.rmtree(old, ignore_errors=True)
         at.mkdir(parents=True)
         module = name.replace("::", ".")

@@ -3,9 +3,9 @@
 A wrong body is the pairs of lines `old:` and `new:` of an edit up to the next line that begins with
 `#` and says what is wrong in the next one. The function is the one that its lines are in; where
 they are in none, as those of a table are, a line `# fn: PATH` names it. A line `# goal: NAME` may
-name the goal that fails, by which several bodies of a function are told apart. A body may also be
-written into a copy of its function that comes after it, so that several bodies of one function can
-be checked at once.
+name the goal that fails, by which several bodies of a function are told apart, and a line
+`# each run` marks a body that each run tries. A body may also be written into a copy of its
+function that comes after it, so that several bodies of one function can be checked at once.
 """
 import difflib
 import re
@@ -49,14 +49,12 @@ class Body:
     copied: str = ""
     # the goal that has to fail, if it is named
     goal: str = ""
+    # whether each run tries it
+    is_marked: bool = False
 
     @property
     def name(self):
         return f"{self.edit}.{self.number}"
-
-    @property
-    def text(self):
-        return "\n".join([self.edit, *self.functions, self.goal, *self.lines])
 
 
 def split(edit, text):
@@ -68,6 +66,8 @@ def split(edit, text):
             body.functions.append(line.removeprefix("# fn: ").strip())
         elif line.startswith("# goal: "):
             body.goal = line.removeprefix("# goal: ").strip()
+        elif line == "# each run":
+            body.is_marked = True
         elif not line.startswith("#"):
             body.lines.append(line)
             file = [line] if line.startswith("file:") else file
