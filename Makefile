@@ -6,7 +6,7 @@ man = $(DESTDIR)$(PREFIX)/share/man/man1
 headers = $(DESTDIR)$(PREFIX)/include
 libraries = $(DESTDIR)$(PREFIX)/lib
 
-.PHONY: help demo build lib tables test programs install uninstall dist clean
+.PHONY: help demo build lib tables test prove mutants programs install uninstall dist clean
 
 help:
 	@echo "make demo       formats a shader with wgsltidy, and prints it with wgslfmt, without proofs"
@@ -17,7 +17,8 @@ help:
 	@echo "make uninstall  removes them"
 	@echo "make dist       packs what is built into an archive in build/ that needs no prover"
 	@echo "make tables     writes again what tools write from the definitions"
-	@echo "make test       runs everything: proofs, wrong bodies, tests, programs"
+	@echo "make test       runs all tests, over programs that are not proved, and checks the documents"
+	@echo "make prove      proves everything, and tries what is built; make mutants tries all wrong bodies"
 	@echo "make clean      removes build/ and what rt keeps in crates/*/out"
 
 demo:
@@ -37,18 +38,12 @@ lib:
 tables:
 	@tools/make_tables
 
-# The quotes in README.md, docs/USE.md and CALLING.md have to be in the sources; the documents have
-# to use the words of the dictionary, and each file the version of VERSION; each file of a crate has
-# to be in the layout of rt fmt, and no line of a definition or a proof may be too long; what tools
-# write has to be up to date, and the table of nodes to have the types of the library; each wrong
-# body has to be one that can be applied; each crate has to pass rt ci, and each wrong body has to
-# be rejected. Beside the last of the wrong bodies, make programs runs: each shader of examples/ has
-# to print as its file in examples/printed/, and that file as itself; the crates that hold tests
-# alone are run; so are the built programs, on made texts and on deep nests, wgsltidy on its rows and
-# on real files, and wgslmin on real files; each allocation of each call, of the programs as filters
-# and of wgsltidy and wgslmin over files fails in turn; the rows are run over the library and the programs; the library is
-# called from C, and from Rust if there is cargo; and the archive of `make dist` is made twice,
-# unpacked, and used without the kit. ANEW=--anew takes nothing from earlier runs.
+# Everything that shows behaviour, without a proof. The quotes in README.md, docs/USE.md and CALLING.md
+# have to be in the sources; the documents have to use the words of the dictionary, and each file the
+# version of VERSION; each file of a crate has to be in the layout of rt fmt, and no line of a
+# definition or a proof may be too long; what tools write has to be up to date; each wrong body has
+# to be one that can be applied, and on record. Then all rows and tests are run over programs as
+# `rt try` compiles them, with checks of each access.
 test:
 	@test "$$(cat HANDLES)" = "Handles allowed: none." \
 	    || { echo "Failed: the file HANDLES."; exit 1; }
@@ -59,17 +54,24 @@ test:
 	@tools/lines --check || { echo "Failed: run \`tools/lines\`."; exit 1; }
 	@tools/make_tables --check || { echo "Failed: run \`make tables\`."; exit 1; }
 	@tools/edits_apply || { echo "Failed: tools/edits_apply, as the lines above say."; exit 1; }
-	@tools/prove_all $(ANEW) || { echo "Failed: tools/prove_all, as above."; exit 1; }
+	@tools/run_tests || { echo "Failed: tools/run_tests, as the lines above say."; exit 1; }
 	@echo "All passed."
 
-# The tests of make test that need no prover, but for the static library, over what it proved. Where
-# wgslfmt fails, a line feed is added, so that what it writes is no printed file.
+# Every proof, the wrong bodies that tools/prove_all tries, and `make programs` over what was
+# proved. ANEW=--anew takes nothing from earlier runs.
+prove:
+	@tools/prove_all $(ANEW) || { echo "Failed: tools/prove_all, as above."; exit 1; }
+	@echo "All proved."
+
+# All wrong bodies, over what `make prove` proved.
+mutants:
+	@tools/edits --all || { echo "Failed: tools/edits, as the lines above say."; exit 1; }
+
+# What make prove tries of what it proved: the built programs on made texts and on deep nests,
+# wgsltidy and wgslmin on real files, with each allocation failing in turn; the library, called from
+# C, and from Rust if there is cargo; and the archive of `make dist`, which is made twice, unpacked,
+# and used without the kit.
 programs:
-	@cd examples && for shader in *.wgsl printed/*.wgsl; do \
-	    { ../crates/wgslfmt/out/wgslfmt < $$shader || echo; } | cmp - printed/$${shader##*/} \
-	        || { echo "Failed: the print of examples/$$shader."; exit 1; }; \
-	done
-	@tools/run_tests || { echo "Failed: tools/run_tests, as the lines above say."; exit 1; }
 	@tools/fuzz --program crates/wgslfmt/out/wgslfmt \
 	    || { echo "Failed: tools/fuzz, as the lines above say."; exit 1; }
 	@tools/nests --program crates/wgsltidy/out/wgsltidy --printer crates/wgslfmt/out/wgslfmt \
@@ -82,7 +84,6 @@ programs:
 	    || { echo "Failed: tools/minify_test, as the lines above say."; exit 1; }
 	@tools/refused_memory || { echo "Failed: tools/refused_memory, as above."; exit 1; }
 	@tools/build lib || { echo "Failed: tools/build lib, as above."; exit 1; }
-	@tools/rows || { echo "Failed: tools/rows, as the lines above say."; exit 1; }
 	@tools/library_tests || { echo "Failed: tools/library_tests, as above."; exit 1; }
 	@tools/build || { echo "Failed: tools/build, as above."; exit 1; }
 	@tools/dist_test || { echo "Failed: tools/dist_test, as above."; exit 1; }

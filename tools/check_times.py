@@ -24,6 +24,7 @@ class Watch:
 
     def __enter__(self):
         self.thread.start()
+        return self
 
     def __exit__(self, *_):
         self.ended.set()
@@ -34,6 +35,15 @@ class Watch:
     def run(self):
         while not self.ended.wait(PAUSE):
             look(self.seen)
+
+    @property
+    def proofs(self):
+        """The seconds that the proof of each crate took."""
+        found = defaultdict(float)
+        for crate, kind, seconds in self.seen.values():
+            if kind == "proofs":
+                found[crate] += seconds
+        return found
 
     def times(self):
         """The seconds of each crate. A run that takes something from earlier ones only counts

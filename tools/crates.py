@@ -1,5 +1,6 @@
 """The crates of the repository, and a check of one of them over the libraries that `rt ci` left."""
 import hashlib
+import json
 import re
 import shutil
 import subprocess
@@ -8,8 +9,8 @@ from pathlib import Path
 
 TOP = Path(__file__).resolve().parent.parent
 
-# the sum of what tools/prove_all proved last
-PROVED = TOP / "build" / "proved.sum"
+# the sums of the crates that tools/prove_all proved last
+PROVED = TOP / "build" / "proved.json"
 # the parts of a crate that the prover reads, and those that neither its proof nor its program does
 READ = ("src", "specs", "proofs")
 LEFT_OUT = ("out", "must-fail")
@@ -60,9 +61,9 @@ def sum_of(files):
     return found.hexdigest()
 
 
-def state():
-    """The kit and the files of all crates, as one sum."""
-    return sum_of(file for crate in listed() for file in files_of(crate))
+def states(names):
+    """The sum of the kit and the files of each of some crates."""
+    return {crate: sum_of(files_of(crate)) for crate in names}
 
 
 def is_made(crate, lines):
@@ -71,9 +72,11 @@ def is_made(crate, lines):
 
 
 def are_proved(names, lines):
-    """Whether tools/prove_all proved all crates as they are, and what it left of these is there."""
-    made = [made_of(it) for it in names if it in lines]
-    return all(it.exists() for it in [PROVED, *made]) and PROVED.read_text() == state()
+    """Whether tools/prove_all proved some crates, which are all those that they depend on, as they
+    are, and what it left of these is there."""
+    if not PROVED.exists() or not all(is_made(it, lines) for it in names):
+        return False
+    return states(names).items() <= json.loads(PROVED.read_text()).items()
 
 
 def copy_crate(crate, to):
