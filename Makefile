@@ -44,11 +44,11 @@ tables:
 # body has to be one that can be applied; each crate has to pass rt ci, and each wrong body has to
 # be rejected. Beside the last of the wrong bodies, make programs runs: each shader of examples/ has
 # to print as its file in examples/printed/, and that file as itself; the crates that hold tests
-# alone are run; so are the built programs, on made texts and on deep nests, wgsltidy on its rows and
-# on real files, and wgslmin on real files; each allocation of each call, of the programs as filters
-# and of wgsltidy and wgslmin over files fails in turn; the rows are run over the library and the programs; the library is
-# called from C, and from Rust if there is cargo; and the archive of `make dist` is made twice,
-# unpacked, and used without the kit. ANEW=--anew takes nothing from earlier runs.
+# alone are run, one of them on all rows of texts; so are the built programs, on made texts and on
+# deep nests, wgsltidy on its rows and on real files, and wgslmin on real files; each allocation of
+# each call, of the programs as filters and of wgsltidy and wgslmin over files fails in turn; the
+# library is called from C, and from Rust if there is cargo; and the archive of `make dist` is made
+# twice, unpacked, and used without the kit. ANEW=--anew takes nothing from earlier runs.
 test:
 	@test "$$(cat HANDLES)" = "Handles allowed: none." \
 	    || { echo "Failed: the file HANDLES."; exit 1; }
@@ -82,7 +82,6 @@ programs:
 	    || { echo "Failed: tools/minify_test, as the lines above say."; exit 1; }
 	@tools/refused_memory || { echo "Failed: tools/refused_memory, as above."; exit 1; }
 	@tools/build lib || { echo "Failed: tools/build lib, as above."; exit 1; }
-	@tools/rows || { echo "Failed: tools/rows, as the lines above say."; exit 1; }
 	@tools/library_tests || { echo "Failed: tools/library_tests, as above."; exit 1; }
 	@tools/build || { echo "Failed: tools/build, as above."; exit 1; }
 	@tools/dist_test || { echo "Failed: tools/dist_test, as above."; exit 1; }
