@@ -7,6 +7,8 @@ from pathlib import Path
 PIECE = re.compile(r'"((?:[^"\\]|\\.)*)"(?:\s*\*\s*([1-9]\d*))?\s*')
 ESCAPE = re.compile(r"\\(x[0-9a-fA-F]{2}|u\{[0-9a-fA-F]+\}|.)")
 ESCAPED = {"n": b"\n", "r": b"\r", "t": b"\t", '"': b'"', "\\": b"\\"}
+# how a text is read of which nothing has to be wanted
+MADE = "made"
 
 
 class Unread(Exception):
@@ -98,7 +100,7 @@ def rows_of(path):
     for number, line in enumerate(map(str.strip, lines), 1):
         try:
             if not line:
-                if row and len(row.fields) == 1:
+                if row and len(row.fields) == 1 and row.word != MADE:
                     raise ValueError("nothing is wanted of the row")
                 rows += [row] if row and row.fields else []
                 row = None

@@ -1,9 +1,11 @@
-"""The texts of tools/fuzz: modules by the grammar of WGSL, mutants of these and of shaders,
+"""Texts made by chance: modules by the grammar of WGSL, mutants of these and of shaders,
 tokens in any order, and plain bytes. Each is made by a source of chance, so the same one makes
 it again."""
 import re
 import sys
 from pathlib import Path
+from random import Random
+from typing import NamedTuple
 
 sys.path.append(str(Path(__file__).resolve().parent / "tables"))
 import node_table
@@ -264,3 +266,25 @@ def any_tokens(random):
 def any_bytes(random):
     pool = random.choice([range(256), range(128), b"<>(){}[]*/-=;,.@ab0 \n", "aü€💌;".encode() + b"\xc3\xed\xa0"])
     return bytes(random.choice(pool) for _ in range(random.randint(0, 200)))
+
+
+# how each kind of text is made, but for modules, and how many there are of each among thirteen
+KINDS = {"modules": (None, 5), "mutants": (mutant, 5), "lists of tokens": (any_tokens, 2),
+         "lists of bytes": (any_bytes, 1)}
+
+
+class Text(NamedTuple):
+    """A text, and of a module what has to be printed of it."""
+
+    kind: str
+    source: bytes
+    kept: list = None
+
+
+def text_of(seed, number):
+    random = Random(f"{seed} {number}")
+    kind = random.choices(list(KINDS), [share for _, share in KINDS.values()])[0]
+    if kind != "modules":
+        return Text(kind, KINDS[kind][0](random))
+    tokens = module_tokens(random)
+    return Text(kind, laid_out(random, tokens).encode(), kept(tokens))

@@ -1,5 +1,4 @@
-//! The rows of texts with what is wanted of them, which `tools/rows` and `crates/wgsl_test_texts`
-//! check too.
+//! The rows of texts with what is wanted of them, which `crates/wgsl_test_texts` checks too.
 
 mod row;
 mod text;

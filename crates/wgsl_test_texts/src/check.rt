@@ -2,11 +2,13 @@
 
 use crate::depths::see_depth;
 use crate::discovered::see_lists;
-use crate::facts::Facts;
+use crate::facts::{Facts, MADE};
 use crate::faults::see_fault;
 use crate::layouts::see_layout;
 use crate::literals::see_literal;
+use crate::made::see_made;
 use crate::minified::see_minified;
+use crate::modules::{see_tidied, see_unit};
 use crate::names::see_names;
 use crate::paths::see_path;
 use crate::programs::Call;
@@ -15,8 +17,14 @@ use crate::shortest::see_shortest;
 use crate::snippets::see_snippet;
 use crate::streams::see_call;
 use crate::tokens::{see_list, see_tokens};
+use crate::trees::see_tree;
 use std::alloc::{AllocError, Global};
+use wgsl_lexer::recognize_template_list;
 use wgsl_read_dialect::recognize_str;
+use wgsl_read_nesting::nesting;
+use wgsl_tree_expression::Expression;
+use wgsl_tree_statement::Statement;
+use wgsl_tree_unit::{GlobalDeclaration, GlobalDirective};
 
 /// Returns what is wrong with a row; nothing where it holds.
 pub fn report_of(alloc: Global, row: &Row<'_>) -> Result<String, AllocError> {
@@ -34,6 +42,9 @@ fn see_field(read: &Field<'_>, facts: &mut Facts<'_>) -> Result<(), AllocError> 
     if let Some(call) = Call::named(word, arguments) {
         return see_call(call, &read.value, facts);
     }
+    if word == MADE {
+        return see_made(&read.value, facts);
+    }
     match std::str::from_utf8(&read.value) {
         Ok(text) => see_text(word, argument, text, facts),
         Err(_) => facts.expect(false, "the text is UTF-8"),
@@ -48,6 +59,14 @@ fn see_text(
     facts: &mut Facts<'_>,
 ) -> Result<(), AllocError> {
     match word {
+        "unit" => see_unit(text, facts),
+        "directive" => see_tree::<GlobalDirective>(text, facts),
+        "declaration" => see_tree::<GlobalDeclaration>(text, facts),
+        "statement" => see_tree::<Statement>(text, facts),
+        "expression" => see_tree::<Expression>(text, facts),
+        "tidy" => see_tidied(text, facts),
+        "template" => see_template(text, facts),
+        "nesting" => see_nesting(text, facts),
         "literal" => see_literal(text, facts),
         "tokens" => see_tokens(text, facts),
         "list" => see_list(text, facts),
@@ -69,5 +88,19 @@ fn see_dialect(text: &str, facts: &mut Facts<'_>) -> Result<(), AllocError> {
     match recognize_str(facts.alloc, text) {
         Ok(()) => facts.answer("accepted", &""),
         Err(error) => see_fault(error, text, facts),
+    }
+}
+
+/// Whether a text begins with a template list.
+fn see_template(text: &str, facts: &mut Facts<'_>) -> Result<(), AllocError> {
+    let is_first = recognize_template_list(facts.alloc, text)?;
+    facts.answer("list", if is_first { &"yes" } else { &"no" })
+}
+
+/// How deep a text nests.
+fn see_nesting(text: &str, facts: &mut Facts<'_>) -> Result<(), AllocError> {
+    match nesting(facts.alloc, text) {
+        Ok(depth) => facts.answer("depth", &depth),
+        Err(_) => Err(AllocError),
     }
 }

@@ -4,6 +4,9 @@ use crate::row::Row;
 use std::alloc::{AllocError, Global};
 use std::fmt;
 
+/// How a text is read of which no fact has to be asked for.
+pub const MADE: &str = "made";
+
 /// The facts that are seen of the text of a row.
 #[derive(Drop)]
 pub struct Facts<'r> {
@@ -31,9 +34,10 @@ impl<'r> Facts<'r> {
         self.see(words, fact, false)
     }
 
-    /// Adds a fact that each row has to ask for.
+    /// Adds a fact that each row has to ask for, unless its text is made.
     pub fn answer<T: fmt::Display>(&mut self, words: &str, fact: &T) -> Result<(), AllocError> {
-        self.see(words, fact, true)
+        let is_made = self.row.fields.first().is_some_and(|it| it.words == MADE);
+        self.see(words, fact, !is_made)
     }
 
     fn see<T: fmt::Display>(

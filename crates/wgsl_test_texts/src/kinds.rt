@@ -1,0 +1,204 @@
+//! The kinds of trees that a text is read as by itself.
+
+use std::alloc::{AllocError, Global};
+use std::fmt;
+use wgsl_error::{Error, ErrorKind};
+use wgsl_form_trees::FromForm;
+use wgsl_parser::{FromSource, parse_str};
+use wgsl_span::Span;
+use wgsl_tree_attribute::Attribute;
+use wgsl_tree_expression::Expression;
+use wgsl_tree_form::{Form, write_form};
+use wgsl_tree_statement::Statement;
+use wgsl_tree_unit::{GlobalDeclaration, GlobalDirective, TranslationUnit};
+
+/// What makes a module of a tree's text, and what the module's print has around the tree's print
+/// and before each of its lines.
+#[derive(Clone, Copy)]
+pub struct Around {
+    pub before: &'static str,
+    pub after: &'static str,
+    pub printed_before: &'static str,
+    pub printed_after: &'static str,
+    pub indent: &'static str,
+}
+
+/// A tree that is read by itself.
+pub trait Tree: Form + FromForm + fmt::Display + PartialEq + Drop {
+    /// Reads the tree that a text is.
+    fn read(alloc: Global, text: &str) -> Result<Self, Error>;
+
+    /// Returns what is around its text in a module.
+    fn around() -> Around;
+
+    /// Returns the tree in a module of its text.
+    fn in_module(unit: &TranslationUnit) -> Option<&Self>;
+
+    /// Removes the empty items of its lists.
+    fn clear(&mut self) {}
+}
+
+/// Returns the text form of a tree.
+pub fn form_of<T: Tree>(alloc: Global, tree: &T) -> Result<String, AllocError> {
+    let mut form = String::new(alloc);
+    match write_form(tree, &mut form) {
+        Ok(()) => Ok(form),
+        Err(_) => Err(AllocError),
+    }
+}
+
+/// The first declaration of a module.
+fn declaration_of(unit: &TranslationUnit) -> Option<&GlobalDeclaration> {
+    Some(unit.global_declarations.first()?.node())
+}
+
+impl Tree for TranslationUnit {
+    fn read(alloc: Global, text: &str) -> Result<Self, Error> {
+        TranslationUnit::from_str(alloc, text)
+    }
+
+    fn around() -> Around {
+        Around {
+            before: "",
+            after: "",
+            printed_before: "",
+            printed_after: "",
+            indent: "",
+        }
+    }
+
+    fn in_module(unit: &TranslationUnit) -> Option<&Self> {
+        Some(unit)
+    }
+
+    fn clear(&mut self) {
+        self.remove_voids();
+    }
+}
+
+impl Tree for GlobalDirective {
+    fn read(alloc: Global, text: &str) -> Result<Self, Error> {
+        GlobalDirective::from_str(alloc, text)
+    }
+
+    fn around() -> Around {
+        Around {
+            before: "",
+            after: "",
+            printed_before: "",
+            printed_after: "\n\n\n",
+            indent: "",
+        }
+    }
+
+    fn in_module(unit: &TranslationUnit) -> Option<&Self> {
+        unit.global_directives.first()
+    }
+}
+
+impl Tree for GlobalDeclaration {
+    fn read(alloc: Global, text: &str) -> Result<Self, Error> {
+        GlobalDeclaration::from_str(alloc, text)
+    }
+
+    fn around() -> Around {
+        Around {
+            before: "",
+            after: "",
+            printed_before: "",
+            printed_after: "\n",
+            indent: "",
+        }
+    }
+
+    fn in_module(unit: &TranslationUnit) -> Option<&Self> {
+        declaration_of(unit)
+    }
+
+    fn clear(&mut self) {
+        self.remove_voids();
+    }
+}
+
+impl Tree for Statement {
+    fn read(alloc: Global, text: &str) -> Result<Self, Error> {
+        Statement::from_str(alloc, text)
+    }
+
+    fn around() -> Around {
+        Around {
+            before: "fn f() {\n",
+            after: "\n}",
+            printed_before: "fn f() {\n",
+            printed_after: "\n}\n",
+            indent: "    ",
+        }
+    }
+
+    fn in_module(unit: &TranslationUnit) -> Option<&Self> {
+        match declaration_of(unit)? {
+            GlobalDeclaration::Function(function) => {
+                Some(function.body.statements.first()?.node())
+            }
+            _ => None,
+        }
+    }
+
+    fn clear(&mut self) {
+        self.remove_voids();
+    }
+}
+
+impl Tree for Expression {
+    fn read(alloc: Global, text: &str) -> Result<Self, Error> {
+        Expression::from_str(alloc, text)
+    }
+
+    fn around() -> Around {
+        Around {
+            before: "const_assert\n",
+            after: "\n;",
+            printed_before: "const_assert ",
+            printed_after: ";\n",
+            indent: "",
+        }
+    }
+
+    fn in_module(unit: &TranslationUnit) -> Option<&Self> {
+        match declaration_of(unit)? {
+            GlobalDeclaration::ConstAssert(assertion) => Some(assertion.expression.node()),
+            _ => None,
+        }
+    }
+}
+
+impl Tree for Attribute {
+    fn read(alloc: Global, text: &str) -> Result<Self, Error> {
+        let whole = format!(in alloc; "{text}{}", Attribute::around().after)?;
+        let unit = parse_str(alloc, &whole)?;
+        match Attribute::in_module(&unit) {
+            Some(attribute) => Ok(attribute.clone(alloc)?),
+            None => Err(Error {
+                error: ErrorKind::InvalidToken,
+                span: Span::new(0..text.len()),
+            }),
+        }
+    }
+
+    fn around() -> Around {
+        Around {
+            before: "",
+            after: "\nfn f() {}",
+            printed_before: "",
+            printed_after: "\nfn f() {\n\n}\n",
+            indent: "",
+        }
+    }
+
+    fn in_module(unit: &TranslationUnit) -> Option<&Self> {
+        match declaration_of(unit)? {
+            GlobalDeclaration::Function(function) => Some(function.attributes.first()?.node()),
+            _ => None,
+        }
+    }
+}
