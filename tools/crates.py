@@ -60,7 +60,7 @@ def state():
 
 
 def is_made(crate, lines):
-    """Whether tools/prove_all left something of a crate. It leaves nothing of a static library."""
+    """Whether tools/prove_all left something of a crate. A static library is proved by tools/build."""
     return is_static(crate, lines) or made_of(crate).exists()
 
 
@@ -127,8 +127,9 @@ def made_of(crate):
     return folder / crate / "out" / crate if is_program else rlib(crate, folder)
 
 
-def words(crate, lines, folder):
-    """What the prover is told of a crate, whose libraries are in a folder of crates."""
+def words(crate, lines, folder, checked=None):
+    """What the prover is told of a crate, whose libraries are in a folder of crates; where it
+    checked the crate before, also where it left that."""
     own, of_kit = named_by(crate, lines)
     is_program = (folder / crate / "src/main.rt").is_file()
     found = ["--crate-name", crate, f"src/{'main' if is_program else 'lib'}.rt"]
@@ -141,5 +142,6 @@ def words(crate, lines, folder):
         found += ["--extern", f"{name}={rlib(name, folder)}"]
     for name in with_those_below(own, lines):
         found += ["-L", f"dependency={rlib(name, folder).parent}"]
-    found += ["-L", f"dependency={kit()}/rlibs", "--logic-built", f"{kit()}/logic_built"]
+    found += ["-L", f"dependency={kit()}/rlibs"]
+    found += ["--crate-checked", checked] if checked else ["--logic-built", f"{kit()}/logic_built"]
     return [*found, "--antt-project", f"{kit()}/rattle/logic/antt-project.json"]
