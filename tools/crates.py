@@ -40,10 +40,10 @@ def with_those_below(names, lines):
 
 
 def files_of(crate):
-    """The files that a crate is proved and built from, and its line of crates.txt is in."""
+    """The files that a crate is proved and built from."""
     parts = [it for it in (TOP / "crates" / crate).iterdir() if it.name not in LEFT_OUT]
     inside = [it for part in parts for it in ([part] if part.is_file() else part.rglob("*"))]
-    return [TOP / "crates.txt", *(it for it in inside if it.is_file())]
+    return [it for it in inside if it.is_file()]
 
 
 @cache
@@ -52,22 +52,22 @@ def version():
     return subprocess.run(["rt", "version"], capture_output=True, text=True, check=True).stdout
 
 
-def sum_of(files):
-    """The kit and some files, as one sum."""
-    found = hashlib.sha256(version().encode())
+def sum_of(files, lines):
+    """The kit, some files and some lines of crates.txt, as one sum."""
+    found = hashlib.sha256("".join([version(), *lines]).encode())
     for file in sorted(set(files)):
         text = hashlib.sha256(file.read_bytes()).hexdigest()
         found.update(f"{file.relative_to(TOP)} {text}\n".encode())
     return found.hexdigest()
 
 
-def states(names):
-    """The sum of the kit and the files of each of some crates."""
-    return {crate: sum_of(files_of(crate)) for crate in names}
+def states(names, lines):
+    """The sum of the kit, the files and the line of each of some crates."""
+    return {crate: sum_of(files_of(crate), [lines[crate]]) for crate in names}
 
 
 def is_made(crate, lines):
-    """Whether tools/prove_all left something of a crate. It leaves nothing of a static library."""
+    """Whether tools/prove_all left something of a crate. A static library is proved by tools/build."""
     return is_static(crate, lines) or made_of(crate).exists()
 
 
@@ -76,7 +76,7 @@ def are_proved(names, lines):
     are, and what it left of these is there."""
     if not PROVED.exists() or not all(is_made(it, lines) for it in names):
         return False
-    return states(names).items() <= json.loads(PROVED.read_text()).items()
+    return states(names, lines).items() <= json.loads(PROVED.read_text()).items()
 
 
 def copy_crate(crate, to):
@@ -136,8 +136,9 @@ def made_of(crate):
     return folder / crate / "out" / crate if is_program else rlib(crate, folder)
 
 
-def words(crate, lines, folder):
-    """What the prover is told of a crate, whose libraries are in a folder of crates."""
+def words(crate, lines, folder, checked=None):
+    """What the prover is told of a crate, whose libraries are in a folder of crates; where it
+    checked the crate before, also where it left that."""
     own, of_kit = named_by(crate, lines)
     is_program = (folder / crate / "src/main.rt").is_file()
     found = ["--crate-name", crate, f"src/{'main' if is_program else 'lib'}.rt"]
@@ -150,5 +151,6 @@ def words(crate, lines, folder):
         found += ["--extern", f"{name}={rlib(name, folder)}"]
     for name in with_those_below(own, lines):
         found += ["-L", f"dependency={rlib(name, folder).parent}"]
-    found += ["-L", f"dependency={kit()}/rlibs", "--logic-built", f"{kit()}/logic_built"]
+    found += ["-L", f"dependency={kit()}/rlibs"]
+    found += ["--crate-checked", checked] if checked else ["--logic-built", f"{kit()}/logic_built"]
     return [*found, "--antt-project", f"{kit()}/rattle/logic/antt-project.json"]

@@ -40,7 +40,8 @@ class Product(NamedTuple):
         """The kit, the files that it is made from and the product itself, as one sum."""
         files = [it for crate in self.needed for it in crates.files_of(crate)]
         built = [it for it in self.built.values() if it.is_file()]
-        return crates.sum_of([RECIPE, *files, *built])
+        lines = crates.listed()
+        return crates.sum_of([RECIPE, *files, *built], [lines[it] for it in self.needed])
 
     def is_built(self):
         """Whether it is there, and made from these files as they are."""

@@ -51,7 +51,6 @@ impl Call {
                     output,
                     errors,
                 )
-                .0
             }
         }
     }

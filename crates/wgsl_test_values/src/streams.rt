@@ -117,7 +117,6 @@ fn start<R: Read, W: Write, E: Write>(
         output,
         errors,
     )
-    .0
 }
 
 #[test]
