@@ -67,11 +67,12 @@ prove:
 mutants:
 	@tools/edits --all || { echo "Failed: tools/edits, as the lines above say."; exit 1; }
 
-# What make prove tries of what it proved: the built programs on made texts and on deep nests,
-# wgsltidy and wgslmin on real files, with each allocation failing in turn; the library, called from
+# What make prove tries of what it proved: the built programs on their rows, on made texts and on
+# deep nests, wgsltidy and wgslmin on real files, with each allocation failing in turn; the library, called from
 # C, and from Rust if there is cargo; and the archive of `make dist`, which is made twice, unpacked,
 # and used without the kit.
 programs:
+	@tools/run_tests --built || { echo "Failed: tools/run_tests, as the lines above say."; exit 1; }
 	@tools/fuzz --program crates/wgslfmt/out/wgslfmt \
 	    || { echo "Failed: tools/fuzz, as the lines above say."; exit 1; }
 	@tools/nests --program crates/wgsltidy/out/wgsltidy --printer crates/wgslfmt/out/wgslfmt \

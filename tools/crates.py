@@ -46,6 +46,11 @@ def files_of(crate):
     return [it for it in inside if it.is_file()]
 
 
+def logic():
+    """The sum of the kit's logic: a kit that has the same one proves the same."""
+    return version().split()[-1]
+
+
 @cache
 def version():
     """The line that identifies the kit and its logic."""

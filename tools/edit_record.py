@@ -55,11 +55,10 @@ def write_record(folder, lines):
 def sum_of_interface(library):
     """A checksum of what a check of a crate above reads of a library."""
     found = hashlib.sha256()
-    for part in ("interface", "lang"):
-        for file in sorted(it for it in (library / part).rglob("*") if it.is_file()):
-            path = str(file.relative_to(library))
-            if file.name != "made.json" and not PROOF.search(path):
-                found.update(f"{path} {hashlib.sha256(file.read_bytes()).hexdigest()}\n".encode())
+    for file in sorted(it for it in (library / "lang").rglob("*") if it.is_file()):
+        path = str(file.relative_to(library))
+        if file.name != "made.json" and not PROOF.search(path):
+            found.update(f"{path} {hashlib.sha256(file.read_bytes()).hexdigest()}\n".encode())
     return found.hexdigest()
 
 
@@ -70,7 +69,7 @@ def read_by_all(crate, lines, libraries):
     judges = [Path(it.__file__).read_text() for it in (edit_checks, stubs, wrong_bodies)]
     below = crates.with_those_below(crates.named_by(crate, lines)[0], lines)
     found = [sum_of_interface(crates.rlib(it, libraries)) for it in below]
-    return [crates.version(), words, *judges, *found]
+    return [crates.logic(), words, *judges, *found]
 
 
 def texts_of(folder):

@@ -4,6 +4,8 @@ The rows of a program are in tests/programs, whose README.md has their form. Bes
 SHADERS has to become the file of its name in another folder.
 """
 import re
+import subprocess
+import tempfile
 from pathlib import Path
 
 import crates
@@ -46,6 +48,31 @@ def arguments_of(row):
     return [it.value.decode() for it in row.wanted if it.words == "argument"]
 
 
+def put_files(rows, folder):
+    """Puts the files that rows of a program may name into a folder."""
+    for path, text in files_of(rows).items():
+        file = folder / path
+        file.parent.mkdir(parents=True, exist_ok=True)
+        file.write_bytes(text)
+
+
+def report(row, wrong):
+    """The lines that say which row does not hold, and what was got."""
+    return [f"{row.file.name}:{row.line}: {row.shows}", *wrong] if wrong else []
+
+
+def report_of_built(row, program, files):
+    """The lines that say what is wrong with how a built program ends beside some files, and with
+    what it writes."""
+    with tempfile.TemporaryDirectory(prefix="row-") as folder:
+        put_files(files, Path(folder))
+        ran = subprocess.run([program, *arguments_of(row)], input=row.text, capture_output=True,
+                             cwd=folder)
+    got = {"status": b"%d" % ran.returncode, "output": ran.stdout, "errors": ran.stderr}
+    wrong = [f"  got {it} {got[it]!r}" for it in got if got[it] != (row.wants(it) or b"")]
+    return report(row, wrong)
+
+
 class Cases:
     """The rows of a program as cases of `rt try` in a folder. It tells what a case wrote on its
     standard error only where nothing is said of its output."""
@@ -55,10 +82,9 @@ class Cases:
         self.room.mkdir()
         for at, row in enumerate(self.rows):
             self.put(self.room / self.name(at), row)
-        for number, (path, text) in enumerate(files_of(self.rows).items()):
-            file = room / str(number)
-            file.write_bytes(text)
-            self.words += ["--data", f"{path}={file}"]
+        put_files(self.rows, room / "files")
+        for path in files_of(self.rows):
+            self.words += ["--data", f"{path}={room / 'files' / path}"]
         self.words += ["--cases", str(self.room)]
 
     def name(self, at):
@@ -76,13 +102,14 @@ class Cases:
         """The lines that say which rows do not hold, by what `rt try` wrote."""
         found, told, end = {}, {}, 0
         for case in CASE.finditer(errors):
-            found[case[1]], told[case[1]], end = case, errors[end : case.start()].lstrip("\n"), case.end()
+            found[case[1]], told[case[1]] = case, errors[end : case.start()].lstrip("\n")
+            end = case.end()
         parts = re.split(r"^== (\d{4})\n", output, flags=re.MULTILINE)
         written, lines = dict(zip(parts[1::2], parts[2::2])), []
         for at, row in enumerate(self.rows):
             name = self.name(at)
             wrong = self.wrong(row, found.get(name), written.get(name, ""), told.get(name, ""))
-            lines += [f"{row.file.name}:{row.line}: {row.shows}", *wrong] if wrong else []
+            lines += report(row, wrong)
         return lines
 
     def wrong(self, row, case, output, errors):
@@ -94,8 +121,8 @@ class Cases:
             lines.append(f"  it ended with status {case[2]}")
         if wanted is None:
             return lines + ["  it wrote another output:", errors] * (case[3] != "expected")
-        got = {"output": output.rstrip("\n").encode(), "errors": errors.encode()}
-        for words, text in {"output": (row.wants("output") or b"").rstrip(b"\n"), "errors": wanted}.items():
-            if got[words] != text:
-                lines.append(f"  got {words} {got[words]!r}")
+        if output.rstrip("\n").encode() != (row.wants("output") or b"").rstrip(b"\n"):
+            lines.append(f"  got output {output!r}")
+        if errors.encode() != wanted:
+            lines.append(f"  got errors {errors!r}")
         return lines
