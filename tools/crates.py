@@ -72,7 +72,7 @@ def states(names, lines):
 
 
 def is_made(crate, lines):
-    """Whether tools/prove_all left something of a crate. A static library is proved by tools/build."""
+    """Whether tools/prove_all left something of a crate. Of a static library it leaves nothing."""
     return is_static(crate, lines) or made_of(crate).exists()
 
 

@@ -19,7 +19,7 @@ SHADERS = {
     "wgsltidy": [("commented", "tidied"), ("tidied", "tidied")],
 }
 # what `rt try` says of a case, and of all
-CASE = re.compile(r"^case=(\S+) run=ended status=(\d+) .*?(?:output=(\w+) )?proved=no$", re.MULTILINE)
+CASE = re.compile(r"^case=(\S+) run=ended status=(\d+) .*?(?:output=(\w+) )?proved=no$", re.M)
 
 
 def programs():
