@@ -9,15 +9,15 @@ ghost use Rattle.wgsl_format.specs.RunOutput.{IsReprinted, no_arguments};
 
 use crate::printer::Printer;
 use crate::program::report_of;
-use crate::report::deliver;
+use crate::report::{Report, deliver};
 use crate::streams::{read_all, tell};
 use std::alloc::Global;
 use std::io::{Read, Write};
-use std::mem::forget;
+use wgsl_tree_unit::TranslationUnit;
 
-/// Runs the program, as `run` does, where it was given no arguments, and frees neither what it wrote
-/// nor the unit that this was printed from: the end of a program does that sooner. Otherwise nothing
-/// is read.
+/// Runs the program, as `run` does, where it was given no arguments, and returns with the status
+/// what it wrote and the unit that this was printed from: the end of a program frees them sooner
+/// than a drop. Otherwise nothing is read.
 pub fn start_keeping<R: Read, W: Write, E: Write>(
     alloc: Global,
     format: &Printer,
@@ -25,23 +25,23 @@ pub fn start_keeping<R: Read, W: Write, E: Write>(
     input: &mut R,
     output: &mut W,
     errors: &mut E,
-) -> u8
+) -> (u8, Option<Report<TranslationUnit>>)
     ensures runs { arguments ≡ 0 → Runs Formats IsReprinted
         (R.remaining input.old) (R.remaining input.new) W.contents output.old output.new
-        (E.contents errors.old) (E.contents errors.new) result }
+        (E.contents errors.old) (E.contents errors.new) result.0 }
 
     // With arguments, the input and the output are not touched.
     ensures unread { 0 < arguments → input.new ≡ input.old }
     ensures unwritten { 0 < arguments → output.new ≡ output.old }
     ensures told { 0 < arguments → (end : ProcessOutput) × GoesOut no_arguments end
-        × (result ≡ end.status)
+        × (result.0 ≡ end.status)
         × Appends (E.contents errors.old) (E.contents errors.new) end.errors }
 {
     if arguments == 0 {
         let report = report_of(alloc, format, read_all(alloc, input));
         let status = deliver(&report, output, errors);
-        forget(report);
-        return status;
+        return (status, Some(report));
     }
-    tell(errors, b"wgslfmt takes no arguments\n", 5)
+    let status = tell(errors, b"wgslfmt takes no arguments\n", 5);
+    (status, None)
 }

@@ -51,6 +51,7 @@ impl Call {
                     output,
                     errors,
                 )
+                .0
             }
         }
     }

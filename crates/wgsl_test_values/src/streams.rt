@@ -117,6 +117,7 @@ fn start<R: Read, W: Write, E: Write>(
         output,
         errors,
     )
+    .0
 }
 
 #[test]

@@ -2,6 +2,7 @@
 #![tactic(auto)]
 
 use std::io::ErrorKind;
+use std::mem::forget;
 use std::process::ExitCode;
 use wgsl_format::{Printer, refuse_memory, start_keeping};
 
@@ -17,12 +18,15 @@ fn main(rt: HostRuntime) -> ExitCode {
         // One that is not UTF-8 is an argument all the same.
         Err(_) => 1,
     };
-    ExitCode::from(start_keeping(
+    let (status, report) = start_keeping(
         rt.alloc(),
         &Printer { depth: DEPTH },
         arguments,
         &mut rt.stdin(),
         &mut rt.stdout(),
         &mut rt.stderr(),
-    ))
+    );
+    // What is left is freed by the end of the process, all at once.
+    forget(report);
+    ExitCode::from(status)
 }

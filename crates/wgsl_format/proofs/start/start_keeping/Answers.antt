@@ -9,4 +9,4 @@ returns-then-arguments-eq0-clause-runs g c = λ _.
     c.deliver-status.ensures.spared
 
 pub returns-clause-told : goal.returns-clause-told
-returns-clause-told g c = λ _. told_to_errors _ _ _ _ _ _ c.tell.ensures.1 c.tell.ensures.2
+returns-clause-told g c = λ _. told_to_errors _ _ _ _ _ _ c.tell-status.ensures.1 c.tell-status.ensures.2
