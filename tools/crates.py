@@ -51,12 +51,12 @@ def version():
     return subprocess.run(["rt", "version"], capture_output=True, text=True, check=True).stdout
 
 
-def sum_of(files):
-    """The kit and some files, as one sum."""
+def sum_of(files, folder=TOP):
+    """The kit and some files of a folder, as one sum."""
     found = hashlib.sha256(version().encode())
     for file in sorted(set(files)):
         text = hashlib.sha256(file.read_bytes()).hexdigest()
-        found.update(f"{file.relative_to(TOP)} {text}\n".encode())
+        found.update(f"{file.relative_to(folder)} {text}\n".encode())
     return found.hexdigest()
 
 
