@@ -99,7 +99,7 @@ def sum_of_body(body, it, texts, common):
         places = (proof[1], proof[1].rpartition("/")[2]) if proof else ()
         if any(map(contains, own, places)) or not any(map(contains, others, places)):
             read[path] = without_comments(text) if path.endswith(".rt") else text
-    told = json.dumps([common, body.functions, body.goal, sorted(read.items())])
+    told = json.dumps([common, sorted(body.functions), body.goal, sorted(read.items())])
     return hashlib.sha256(told.encode()).hexdigest()[:16]
 
 
