@@ -57,18 +57,18 @@ def version():
     return subprocess.run(["rt", "version"], capture_output=True, text=True, check=True).stdout
 
 
-def sum_of(files, lines):
-    """The kit, some files and some lines of crates.txt, as one sum."""
-    found = hashlib.sha256("".join([version(), *lines]).encode())
+def sum_of(words, files, folder=TOP):
+    """Some words and some files of a folder, as one sum."""
+    found = hashlib.sha256("".join(words).encode())
     for file in sorted(set(files)):
         text = hashlib.sha256(file.read_bytes()).hexdigest()
-        found.update(f"{file.relative_to(TOP)} {text}\n".encode())
+        found.update(f"{file.relative_to(folder)} {text}\n".encode())
     return found.hexdigest()
 
 
 def states(names, lines):
     """The sum of the kit, the files and the line of each of some crates."""
-    return {crate: sum_of(files_of(crate), [lines[crate]]) for crate in names}
+    return {crate: sum_of([version(), lines[crate]], files_of(crate)) for crate in names}
 
 
 def is_made(crate, lines):

@@ -54,12 +54,9 @@ def write_record(folder, lines):
 @cache
 def sum_of_interface(library):
     """A checksum of what a check of a crate above reads of a library."""
-    found = hashlib.sha256()
-    for file in sorted(it for it in (library / "lang").rglob("*") if it.is_file()):
-        path = str(file.relative_to(library))
-        if file.name != "made.json" and not PROOF.search(path):
-            found.update(f"{path} {hashlib.sha256(file.read_bytes()).hexdigest()}\n".encode())
-    return found.hexdigest()
+    paths = {it: str(it.relative_to(library)) for it in (library / "lang").rglob("*") if it.is_file()}
+    read = [it for it in paths if it.name != "made.json" and not PROOF.search(paths[it])]
+    return crates.sum_of([], read, library)
 
 
 def read_by_all(crate, lines, libraries):
@@ -101,7 +98,7 @@ def sum_of_body(body, it, texts, common):
         places = (proof[1], proof[1].rpartition("/")[2]) if proof else ()
         if any(map(contains, own, places)) or not any(map(contains, others, places)):
             read[path] = without_comments(text) if path.endswith(".rt") else text
-    told = json.dumps([common, body.functions, body.goal, sorted(read.items())])
+    told = json.dumps([common, sorted(body.functions), body.goal, sorted(read.items())])
     return hashlib.sha256(told.encode()).hexdigest()[:16]
 
 
@@ -131,6 +128,9 @@ def tried(crate, lines, libraries, which, is_recorded=False):
             it.run(Path(room))
     took = " and ".join(f"{seconds:.0f}" for seconds in it.seconds) or "no"
     told = [f"{crate}: {counted(it)}; {it.count} tried in {took} s"]
+    new = [name for name, checksum in sums.items() if checksum not in known]
+    if new and not is_recorded:
+        told.append(f"{crate}: `tools/edits --record {crate}` would record {' '.join(new)}")
     for body, (verdict, why) in it.told(Verdict.REFUSED):
         told.append(f"{crate}/{body.name}: {verdict.value}: {body.wrong} [{why}]")
     print("\n".join(told), flush=True)

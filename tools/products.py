@@ -41,7 +41,8 @@ class Product(NamedTuple):
         files = [it for crate in self.needed for it in crates.files_of(crate)]
         built = [it for it in self.built.values() if it.is_file()]
         lines = crates.listed()
-        return crates.sum_of([RECIPE, *files, *built], [lines[it] for it in self.needed])
+        words = [crates.version(), *(lines[it] for it in self.needed)]
+        return crates.sum_of(words, [RECIPE, *files, *built])
 
     def is_built(self):
         """Whether it is there, and made from these files as they are."""
