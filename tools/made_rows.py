@@ -6,11 +6,12 @@ import texts
 SEED = 1
 # the characters that rows have as they are
 PLAIN = {chr(it) for it in range(32, 127)} - {'"', "\\"}
-# how many texts there are of a seed, and how many openings the nests and chains have; those of the
-# deep ones, which have to be accepted
-COUNT = 300
+# how many texts of a seed are made, and how many bytes one has at most
+COUNT = 250
+LONGEST = 1_000
+# how many openings nests and chains have, and deep ones, which have to be accepted
 DEPTH = 10
-DEEP = (100, 190)
+DEEP = 190
 
 
 def quoted(source):
@@ -25,11 +26,12 @@ def row_of(shows, word, text, is_required):
 
 
 def rows_by_chance():
-    """A row for each text of the seed."""
+    """A row for each text of the seed that is not long."""
     for number in range(COUNT):
         text = texts.text_of(SEED, number)
-        shows = f"Text {number} of seed {SEED}, of the {text.kind}."
-        yield row_of(shows, "made", text.source, text.kept is not None)
+        if len(text.source) <= LONGEST:
+            shows = f"Text {number} of seed {SEED}, of the {text.kind}."
+            yield row_of(shows, "made", text.source, text.kept is not None)
 
 
 def rows_of_nests():
@@ -40,11 +42,10 @@ def rows_of_nests():
             text = nest_texts.text_of_kind(kind, variant, DEPTH)
             shows = f"{DEPTH} openings, {variant}, {name}."
             yield row_of(shows, "made", text.source, text.is_required)
-        for depth in DEEP:
-            text = nest_texts.text_of_kind(kind, "whole", depth)
-            if "whole" in kind.variants and text.is_required:
-                shows = f"{depth} openings, {name}."
-                yield row_of(shows, f"parse_within {nest_texts.ACCEPTED}", text.source, True)
+        deep = nest_texts.text_of_kind(kind, "whole", DEEP)
+        if "whole" in kind.variants and deep.is_required:
+            shows = f"{DEEP} openings, {name}."
+            yield row_of(shows, f"parse_within {nest_texts.ACCEPTED}", deep.source, True)
 
 
 def write_rows(folder):

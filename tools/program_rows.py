@@ -45,7 +45,9 @@ def files_of(rows):
 
 
 def arguments_of(row):
-    return [it.value.decode() for it in row.wanted if it.words == "argument"]
+    """The arguments of a row, which in rows of texts are as many as the row's first line says."""
+    named = [it.value.decode() for it in row.wanted if it.words == "argument"]
+    return named or ["x"] * int(row.argument or 0)
 
 
 def put_files(rows, folder):

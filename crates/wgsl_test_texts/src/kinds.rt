@@ -28,8 +28,8 @@ pub trait Tree: Form + FromForm + fmt::Display + PartialEq + Drop {
     /// Reads the tree that a text is.
     fn read(alloc: Global, text: &str) -> Result<Self, Error>;
 
-    /// Returns what is around its text in a module.
-    fn around() -> Around;
+    /// Returns what is around its text in a module, unless it is a module.
+    fn around() -> Option<Around>;
 
     /// Returns the tree in a module of its text.
     fn in_module(unit: &TranslationUnit) -> Option<&Self>;
@@ -57,14 +57,8 @@ impl Tree for TranslationUnit {
         TranslationUnit::from_str(alloc, text)
     }
 
-    fn around() -> Around {
-        Around {
-            before: "",
-            after: "",
-            printed_before: "",
-            printed_after: "",
-            indent: "",
-        }
+    fn around() -> Option<Around> {
+        None
     }
 
     fn in_module(unit: &TranslationUnit) -> Option<&Self> {
@@ -81,14 +75,14 @@ impl Tree for GlobalDirective {
         GlobalDirective::from_str(alloc, text)
     }
 
-    fn around() -> Around {
-        Around {
+    fn around() -> Option<Around> {
+        Some(Around {
             before: "",
             after: "",
             printed_before: "",
             printed_after: "\n\n\n",
             indent: "",
-        }
+        })
     }
 
     fn in_module(unit: &TranslationUnit) -> Option<&Self> {
@@ -101,14 +95,14 @@ impl Tree for GlobalDeclaration {
         GlobalDeclaration::from_str(alloc, text)
     }
 
-    fn around() -> Around {
-        Around {
+    fn around() -> Option<Around> {
+        Some(Around {
             before: "",
             after: "",
             printed_before: "",
             printed_after: "\n",
             indent: "",
-        }
+        })
     }
 
     fn in_module(unit: &TranslationUnit) -> Option<&Self> {
@@ -125,14 +119,14 @@ impl Tree for Statement {
         Statement::from_str(alloc, text)
     }
 
-    fn around() -> Around {
-        Around {
+    fn around() -> Option<Around> {
+        Some(Around {
             before: "fn f() {\n",
             after: "\n}",
             printed_before: "fn f() {\n",
             printed_after: "\n}\n",
             indent: "    ",
-        }
+        })
     }
 
     fn in_module(unit: &TranslationUnit) -> Option<&Self> {
@@ -154,14 +148,14 @@ impl Tree for Expression {
         Expression::from_str(alloc, text)
     }
 
-    fn around() -> Around {
-        Around {
+    fn around() -> Option<Around> {
+        Some(Around {
             before: "const_assert\n",
             after: "\n;",
             printed_before: "const_assert ",
             printed_after: ";\n",
             indent: "",
-        }
+        })
     }
 
     fn in_module(unit: &TranslationUnit) -> Option<&Self> {
@@ -174,7 +168,7 @@ impl Tree for Expression {
 
 impl Tree for Attribute {
     fn read(alloc: Global, text: &str) -> Result<Self, Error> {
-        let whole = format!(in alloc; "{text}{}", Attribute::around().after)?;
+        let whole = format!(in alloc; "{text}\nfn f() {{}}")?;
         let unit = parse_str(alloc, &whole)?;
         match Attribute::in_module(&unit) {
             Some(attribute) => Ok(attribute.clone(alloc)?),
@@ -185,14 +179,14 @@ impl Tree for Attribute {
         }
     }
 
-    fn around() -> Around {
-        Around {
+    fn around() -> Option<Around> {
+        Some(Around {
             before: "",
             after: "\nfn f() {}",
             printed_before: "",
             printed_after: "\nfn f() {\n\n}\n",
             indent: "",
-        }
+        })
     }
 
     fn in_module(unit: &TranslationUnit) -> Option<&Self> {

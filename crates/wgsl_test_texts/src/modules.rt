@@ -9,8 +9,7 @@ use std::alloc::{AllocError, Global};
 use wgsl_error::{Error, ErrorKind};
 use wgsl_format::tidy;
 use wgsl_lexer::Lexer;
-use wgsl_parser::{FromSource, TranslationUnitParser, parse_str, parse_within};
-use wgsl_tree_unit::TranslationUnit;
+use wgsl_parser::{TranslationUnitParser, parse_str, parse_within};
 
 /// A byte order mark, which only `tidy` reads.
 const MARK: char = '\u{feff}';
@@ -118,7 +117,6 @@ fn is_same_in_calls(alloc: Global, text: &str, fault: Option<&Error>) -> Result<
     let tokens = Lexer::new(alloc, text)?;
     let faults = [
         parse_within(alloc, text, usize::MAX).err(),
-        TranslationUnit::from_str(alloc, text).err(),
         TranslationUnitParser::new().parse(alloc, tokens).err(),
     ];
     Ok(faults.iter().all(|found| found.as_ref() == fault))

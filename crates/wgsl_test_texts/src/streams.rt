@@ -113,11 +113,8 @@ impl Case<'_> {
     }
 
     /// Checks it with streams that take a byte at a time, and with streams of which each call
-    /// fails in turn, unless the text is long.
+    /// fails in turn.
     fn check(self, due: &Answer, facts: &mut Facts<'_>) -> Result<(), AllocError> {
-        if self.source.len() > LONG {
-            return Ok(());
-        }
         let is_same = self.answer(Calls::new(1), Calls::new(1)).is_alike(due);
         facts.expect(is_same, "streams of a byte a call change nothing")?;
         facts.expect(self.ends_at_reads(), "a read that fails ends it")?;
@@ -128,7 +125,7 @@ impl Case<'_> {
     }
 }
 
-/// Sees what a program returns and writes by a call, and by `run` where that does the same.
+/// Sees what a program returns and writes by a call, and its streams unless the text is long.
 pub fn see_call(call: Call, source: &[u8], facts: &mut Facts<'_>) -> Result<(), AllocError> {
     let alloc = facts.alloc;
     let case = Case {
@@ -137,16 +134,24 @@ pub fn see_call(call: Call, source: &[u8], facts: &mut Facts<'_>) -> Result<(), 
         source,
     };
     let due = case.answer(Calls::whole(), Calls::whole());
-    case.check(&due, facts)?;
-    if let Some(call) = call.run() {
-        let case = Case { call, ..case };
-        let is_alike = case.answer(Calls::whole(), Calls::whole()).is_alike(&due);
-        facts.expect(is_alike, "`run` and `start_keeping` answer alike")?;
-        case.check(&due, facts)?;
+    if source.len() <= LONG {
+        see_streams(case, &due, facts)?;
     }
     facts.answer("status", &due.status)?;
     see_written("output", &due.output, facts)?;
     see_written("errors", &due.errors, facts)
+}
+
+/// Sees the streams of a call, and those of `run` where that does the same.
+fn see_streams(case: Case<'_>, due: &Answer, facts: &mut Facts<'_>) -> Result<(), AllocError> {
+    case.check(due, facts)?;
+    let Some(call) = case.call.run() else {
+        return Ok(());
+    };
+    let case = Case { call, ..case };
+    let is_alike = case.answer(Calls::whole(), Calls::whole()).is_alike(due);
+    facts.expect(is_alike, "`run` and `start_keeping` answer alike")?;
+    case.check(due, facts)
 }
 
 /// Whether a program returns a status for a text and writes these texts.

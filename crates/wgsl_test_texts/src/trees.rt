@@ -80,13 +80,16 @@ fn is_same_by_form<T: Tree>(alloc: Global, tree: &T, printed: &str) -> Result<bo
     Ok(is_alike && form_of(alloc, &again)? == form)
 }
 
-/// Sees that the tree of a text is the same in a module around the text, and printed as it is.
+/// Sees that the tree of a text is the same in a module around the text, and printed as it is,
+/// unless it is a module.
 fn see_in_module<T: Tree>(
     text: &str,
     printed: &str,
     facts: &mut Facts<'_>,
 ) -> Result<(), AllocError> {
-    let (alloc, around) = (facts.alloc, T::around());
+    let (alloc, Some(around)) = (facts.alloc, T::around()) else {
+        return Ok(());
+    };
     let whole = format!(in alloc; "{}{text}{}", around.before, around.after)?;
     let Ok(unit) = parse_str(alloc, &whole) else {
         return facts.expect(false, "a text with a tree is read in a module");
