@@ -13,7 +13,6 @@ from collections import Counter
 from datetime import date
 from enum import Enum
 from functools import cache
-from operator import contains
 from pathlib import Path
 
 import crates
@@ -79,11 +78,18 @@ def without_comments(text):
     return [line for line in text.split("\n") if not line.lstrip().startswith("//")]
 
 
-def folders_of(functions, stubs_there):
-    """The folders of the proofs of some functions, and the names of those of their cycles."""
+def folders_of(functions, known):
+    """The folders of the proofs of some functions, and the names of those of the cycles that the
+    stubs of a crate tell of them."""
     places = [name.replace("::", "/").rpartition("/") for name in functions]
     alone = {f"{above}{slash}{sign}{name}" for above, slash, name in places for sign in ("", "+")}
-    return alone, {f"+{it.cycle}" for it in stubs_there if it.functions[0] in functions}
+    return alone, {f"+{it.cycle}" for it in known if it.functions[0] in functions}
+
+
+def is_proof_in(path, folders):
+    """Whether a file is of the proof of a function or a cycle that has one of these folders."""
+    proof, (alone, cycles) = PROOF.fullmatch(path), folders
+    return bool(proof) and (proof[1] in alone or proof[1].rpartition("/")[2] in cycles)
 
 
 def sum_of_body(body, it, texts, common):
@@ -94,9 +100,7 @@ def sum_of_body(body, it, texts, common):
     changed, _ = wrong_bodies.joined([body, *it.stubs_beside(near)], it.folder)
     read = {}
     for path, text in {**texts, **changed}.items():
-        proof = PROOF.fullmatch(path)
-        places = (proof[1], proof[1].rpartition("/")[2]) if proof else ()
-        if any(map(contains, own, places)) or not any(map(contains, others, places)):
+        if is_proof_in(path, own) or not is_proof_in(path, others):
             read[path] = without_comments(text) if path.endswith(".rt") else text
     told = json.dumps([common, sorted(body.functions), body.goal, sorted(read.items())])
     return hashlib.sha256(told.encode()).hexdigest()[:16]
