@@ -1,10 +1,9 @@
 /* Makes each call of wgsl.h on each text with one request for memory refused, the first, the
    second, and so on, and exits with the line of the first check that fails, or 0. Each call has to
    report out of memory or return what it returns undisturbed, to free all it allocated, and to
-   make a request on some text. The texts are those below and those of
-   crates/wgsl_test_memory/data/texts.txt; wgsl_print has their text forms and those of
-   library_forms.h. It is run at the top of the repository, and linked with --wrap of malloc,
-   realloc and free. */
+   make a request on some text. The texts are those below and those of tests/texts.txt; wgsl_print
+   has their text forms and those of library_forms.h. It is run at the top of the repository, and
+   linked with --wrap of malloc, realloc and free. */
 #include <stdio.h>
 #include <stdlib.h>
 #include <string.h>
@@ -201,7 +200,7 @@ int main(void) {
     char line[512];
     int failed = check_forms(), read = 0;
     size_t at;
-    FILE *file = fopen("crates/wgsl_test_memory/data/texts.txt", "r");
+    FILE *file = fopen("tests/texts.txt", "r");
     CHECK(file != NULL);
     for (at = 0; failed == 0 && at < sizeof texts / sizeof *texts; at++) failed = check(texts[at]);
     while (failed == 0 && fgets(line, sizeof line, file) != NULL) {

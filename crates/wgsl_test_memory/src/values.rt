@@ -1,127 +1,77 @@
 //! Calls on paths, and calls that make a node of its parts.
 
-use crate::line::Line;
+use crate::answers::Answers;
+use crate::texts;
 use std::alloc::{AllocError, Global};
-use wgsl_parse::SyntaxNode;
 use wgsl_parse::syntax::{
     ConstAssert, Expression, Ident, ModulePath, ModulePathParseError, ReturnStatement, Span,
-    Spanned, TranslationUnit,
+    Spanned,
 };
 
-/// Makes a call on values, and returns whether there is one with this name.
-pub fn make_call<R: Print + AllocGlobal>(line: &mut Line<'_, R>, call: &str, text: &str) -> bool {
-    let alloc = line.alloc();
-    match call {
-        "ModulePath::push" => push(line, text),
-        "ModulePath::join" => line.call(|| joined(alloc, text)),
-        "ModulePath::join_path" => join_paths(line, text),
-        "ModulePath::clone" => copy_path(line, text),
-        "SyntaxNode::ident" => tell_names(line, text),
-        "ReturnStatement::from_expression" => line.call(|| returned(alloc, text)),
-        "ConstAssert::new" => line.call(|| asserted(alloc, text)),
-        "Spanned::new" => line.call(|| spanned(alloc, text)),
-        "Spanned::with_default_span" => line.call(|| unplaced(alloc, text)),
-        _ => return false,
+/// Makes the calls on paths.
+pub fn make_paths(answers: &mut Answers) {
+    for text in texts::PATHS {
+        make_path(answers, text);
     }
-    true
+}
+
+fn make_path(answers: &mut Answers, text: &'static str) {
+    let alloc = answers.alloc;
+    let path = answers.call("ModulePath::from_str", text, || {
+        ModulePath::from_str(alloc, text)
+    });
+    let Ok(mut path) = path else {
+        return;
+    };
+    let _ = answers.call("ModulePath::clone", text, || path.clone(alloc));
+    let _ = answers.call("PathOrigin::clone", text, || path.origin.clone(alloc));
+    answers.see("ModulePath::clone", text, &path);
+    let _ = answers.call("ModulePath::join", text, || joined(alloc, &path));
+    let _ = answers.call("ModulePath::join_path", text, || join_paths(alloc, &path));
+    answers.see("ModulePath::join_path", text, &path);
+    answers.change("ModulePath::push", text, &mut path, |path| {
+        path.push(alloc, "first")
+    });
+}
+
+/// The path with two components more.
+fn joined(alloc: Global, path: &ModulePath) -> Result<ModulePath, AllocError> {
+    let mut names = Vec::new(alloc);
+    names.push(String::from_str(alloc, "a")?)?;
+    names.push(String::from_str(alloc, "b")?)?;
+    path.clone(alloc)?.join(alloc, names)
+}
+
+/// The path joined with one a level up, if its levels are not too many.
+fn join_paths(
+    alloc: Global,
+    path: &ModulePath,
+) -> Result<Option<ModulePath>, ModulePathParseError> {
+    let above = ModulePath::from_str(alloc, "super::a")?;
+    if !path.join_fits(&above) {
+        return Ok(None);
+    }
+    Ok(Some(path.join_path(alloc, &above)?))
+}
+
+/// Makes the calls that make a node of a name.
+pub fn make_nodes(answers: &mut Answers) {
+    let (alloc, text) = (answers.alloc, "name");
+    let _ = answers.call("ReturnStatement::from_expression", text, || {
+        ReturnStatement::from_expression(alloc, Expression::from(ident(alloc, text)?))
+    });
+    let _ = answers.call("ConstAssert::new", text, || {
+        ConstAssert::new(alloc, Expression::from(ident(alloc, text)?))
+    });
+    let _ = answers.call("Spanned::new", text, || {
+        Spanned::new(alloc, ident(alloc, text)?, Span::new(0..text.len()))
+    });
+    let _ = answers.call("Spanned::with_default_span", text, || {
+        Spanned::with_default_span(alloc, ident(alloc, text)?)
+    });
 }
 
 /// The text as a name.
 fn ident(alloc: Global, text: &str) -> Result<Ident, AllocError> {
     Ok(Ident::new(String::from_str(alloc, text)?))
-}
-
-/// What returns the name.
-fn returned(alloc: Global, text: &str) -> Result<ReturnStatement, AllocError> {
-    ReturnStatement::from_expression(alloc, Expression::from(ident(alloc, text)?))
-}
-
-/// What asserts the name.
-fn asserted(alloc: Global, text: &str) -> Result<ConstAssert, AllocError> {
-    ConstAssert::new(alloc, Expression::from(ident(alloc, text)?))
-}
-
-/// The name where the text is.
-fn spanned(alloc: Global, text: &str) -> Result<Spanned<Ident>, AllocError> {
-    Spanned::new(alloc, ident(alloc, text)?, Span::new(0..text.len()))
-}
-
-/// The name nowhere.
-fn unplaced(alloc: Global, text: &str) -> Result<Spanned<Ident>, AllocError> {
-    Spanned::with_default_span(alloc, ident(alloc, text)?)
-}
-
-/// The path of the text, if it has one.
-fn path_of<R: Print + AllocGlobal>(line: &mut Line<'_, R>, text: &str) -> Option<ModulePath> {
-    let path = ModulePath::from_str(line.alloc(), text);
-    line.given(path)
-}
-
-/// Prints what `push` returns, and the path after it. A path that a refused call changed is
-/// printed too.
-fn push<R: Print + AllocGlobal>(line: &mut Line<'_, R>, text: &str) {
-    let alloc = line.alloc();
-    let (Some(mut path), Some(before)) = (path_of(line, text), path_of(line, text)) else {
-        return;
-    };
-    if line.is_refused(path.push(alloc, text)) {
-        if path != before {
-            line.tell(&path);
-        }
-        line.is_refused(path.push(alloc, text));
-    }
-    line.tell(&path);
-}
-
-/// The path of the text with the text as two components after it.
-fn joined(alloc: Global, text: &str) -> Result<ModulePath, ModulePathParseError> {
-    let path = ModulePath::from_str(alloc, text)?;
-    let mut names = Vec::new(alloc);
-    names.push(String::from_str(alloc, text)?)?;
-    names.push(String::from_str(alloc, text)?)?;
-    Ok(path.join(alloc, names)?)
-}
-
-/// The path joined with the suffix, unless its levels are too many.
-fn join_path(
-    alloc: Global,
-    path: &ModulePath,
-    suffix: &ModulePath,
-) -> Result<Option<ModulePath>, AllocError> {
-    if !path.join_fits(suffix) {
-        return Ok(None);
-    }
-    Ok(Some(path.join_path(alloc, suffix)?))
-}
-
-/// Prints the path of the text joined with itself, and with one a level up.
-fn join_paths<R: Print + AllocGlobal>(line: &mut Line<'_, R>, text: &str) {
-    let alloc = line.alloc();
-    let (Some(path), Some(above)) = (path_of(line, text), path_of(line, "super::a")) else {
-        return;
-    };
-    line.call(|| join_path(alloc, &path, &path));
-    line.call(|| join_path(alloc, &path, &above));
-    line.call(|| join_path(alloc, &above, &path));
-}
-
-/// Prints a copy of the path of the text, and of its origin.
-fn copy_path<R: Print + AllocGlobal>(line: &mut Line<'_, R>, text: &str) {
-    let alloc = line.alloc();
-    let Some(path) = path_of(line, text) else {
-        return;
-    };
-    line.call(|| path.clone(alloc));
-    line.call(|| path.origin.clone(alloc));
-}
-
-/// Prints the name of each declaration of a module.
-fn tell_names<R: Print + AllocGlobal>(line: &mut Line<'_, R>, text: &str) {
-    let alloc = line.alloc();
-    let Some(unit) = line.tree::<TranslationUnit>(text) else {
-        return;
-    };
-    for node in &unit.global_declarations {
-        line.call(|| node.ident(alloc));
-    }
 }
