@@ -56,7 +56,7 @@ fn lexers(rt: HostRuntime) {
 
 #[test]
 fn paths(rt: HostRuntime) {
-    check_count(&rt, values::make_paths, 35);
+    check_count(&rt, values::make_paths, 55);
 }
 
 #[test]

@@ -35,4 +35,8 @@ pub const LITERALS: [&str; 2] = ["1.5f", "(1.5)"];
 
 pub const LISTS: [&str; 2] = ["<i32,select(2,3,a>b)>", "<a < b"];
 
-pub const PATHS: [&str; 2] = ["super::super::first::second", "package::first"];
+pub const PATHS: [&str; 3] = [
+    "super::super::first::second",
+    "package::first",
+    "name::first",
+];
