@@ -1,8 +1,6 @@
 -- The text of a list is the texts of its items with a separator between each two.
-use Rattle.std.proofs.Common.{ℕ, ◌+◌, ◌<◌, ◌≡◌, refl, sym, ◌∙◌, ap, List, [], ◌∷◌, ◌++◌, Some, take, length, get_or}
+use Rattle.std.proofs.Common.{ℕ, ◌≡◌, refl, ap, List, [], ◌∷◌, ◌++◌}
 use Rattle.std.specs.List.{join_by, flat_map}
-use Rattle.std.specs.Fmt.{◌++?◌}
-use Rattle.wgsl_writer.proofs.Joins.{before, joined_output_more, joined_output_some}
 use Rattle.wgsl_span.specs.declared.Spanned.{Spanned}
 use Rattle.wgsl_tree_expression.specs.declared.expression.Expression.{Expression}
 use Rattle.wgsl_tree_expression.specs.declared.type_expression.TemplateArg.{TemplateArg}
@@ -37,15 +35,3 @@ pub joined_args : (separator : List ℕ) (xs : List TemplateArg)
     ≡ joined separator (expression_texts (template_arg_nodes_view xs))
 joined_args separator [] = refl
 joined_args separator (x ∷ xs) = ap (λ u. print_expression_node (template_arg_view x) ++ u) (further_args separator xs)
-
--- one more item
-pub joined_more : {X : Type 0} (text : X → List ℕ) (separator : List ℕ) (xs : List X) (k : ℕ) (x : X)
-    → k < length xs → x ≡ get_or xs k x
-    → join_by text separator (take k xs) ++ (before separator k ++ text x) ≡ join_by text separator (take (k + 1) xs)
-joined_more text separator xs k x h e =
-    let same : Some (join_by text separator (take (k + 1) xs))
-    ≡ Some (join_by text separator (take k xs) ++ (before separator k ++ text x)) =
-    sym (joined_output_some text separator (take (k + 1) xs))
-    ∙ joined_output_more (λ y. Some (text y)) separator xs k x h e
-    ∙ ap (λ t. t ++? Some (before separator k ++ text x)) (joined_output_some text separator (take k xs)) in
-    cc

@@ -1,30 +1,19 @@
-use Rattle.std.proofs.Common.{rules, arith, ◌≡◌, ◌≤◌, ◌-◌, sym, ap, ◌∙◌, ◌++◌, codes, take}
+use Rattle.std.proofs.Common.{rules, ◌≡◌, ◌≤◌, ◌-◌, sym, ap, ◌∙◌, ◌++◌, codes, take}
 use Rattle.std.specs.List.{join_by}
 use Rattle.std.proofs.lemmas.List.{take_all}
-use Rattle.std.proofs.lemmas.Grind.{common_steps, put_two}
 use Rattle.std.proofs.Output.{has_written_append, has_written_of_eq}
-use Rattle.wgsl_span.specs.Spanned.{spanned_span}
-use Rattle.wgsl_span.specs.View.{span_view}
 use Rattle.wgsl_span.specs.declared.Spanned.{Spanned}
 use Rattle.wgsl_tree_expression.specs.declared.expression.Expression.{Expression}
 use Rattle.wgsl_tree_expression.specs.declared.type_expression.TemplateArg.{TemplateArg}
-use Rattle.wgsl_tree_expression.specs.View.{expression_view, expression_node_view, binary_expression_view, indexing_expression_view, named_component_expression_view, function_call_view, type_expression_view, template_arg_view, template_args_view, ident_name}
-use Rattle.wgsl_model.specs.Printed.Expressions.{expression_in, print_expression, print_call, print_type, print_expression_node}
-use Rattle.wgsl_tree_expression.specs.declared.expression.Expression.TheFolds.{the_lemmas}
-use Rattle.wgsl_tree_expression.specs.declared.expression.Expression.TheViews.{out-BinaryExpression, out-FunctionCall, out-IndexingExpression, out-NamedComponentExpression, out-TypeExpression}
-use Rattle.wgsl_model.specs.Trees.Expressions.{ExpressionNode, expression_node, type_expression}
+use Rattle.wgsl_tree_expression.specs.View.{expression_view, expression_node_view, function_call_view, type_expression_view, template_arg_view, template_args_view, ident_name}
+use Rattle.wgsl_model.specs.Printed.Expressions.{print_expression, print_call, print_type, print_expression_node}
+use Rattle.wgsl_tree_expression.specs.declared.expression.Expression.TheViews.{out-FunctionCall, out-TypeExpression}
+use Rattle.wgsl_model.specs.Trees.Expressions.{type_expression}
 use Rattle.wgsl_tree_expression.proofs.Views.{call_view_out, type_view_out}
-use Rattle.wgsl_tree_expression.specs.Chains.{left_of, below, text_after, text_above}
+use Rattle.wgsl_tree_expression.specs.Chains.{below, text_above}
 use Rattle.wgsl_tree_expression.proofs.Chains.{printed_above, above_parts, half_below, below_all}
-use Rattle.wgsl_tree_expression.proofs.Texts.{joined_nodes, joined_args, joined_more}
-use Rattle.wgsl_writer.proofs.Joins.{before_next}
+use Rattle.wgsl_tree_expression.proofs.Texts.{joined_nodes, joined_args}
 use Rattle.wgsl_tree_expression.proofs.+display.Goals as goal
-
--- what is on the left is printed first
-printed_left : (node left : ExpressionNode) → left_of node ≡ left
-    → print_expression_node left ++ text_after (expression_in node) ≡ print_expression_node node
-printed_left node left on =
-    ap (λ l. print_expression_node l ++ text_after (expression_in node)) (sym on) ∙ sym (printed_above 1 node)
 
 pub function_call::FunctionCallDisplay::fmt-returns-clause-writes :
     goal.function_call::FunctionCallDisplay::fmt-returns-clause-writes
@@ -97,63 +86,3 @@ chain::write_above-halves-preserved g t c =
           ∙ sym (above_parts s l u node inner outer) in
           has_written_of_eq _ _ _ _ _ same (has_written_append _ _ _ _ _ _ one two),
     )
-
-pub binary::BinaryExpressionDisplay::fmt-returns-clause-writes :
-    goal.binary::BinaryExpressionDisplay::fmt-returns-clause-writes
-binary::BinaryExpressionDisplay::fmt-returns-clause-writes g t c = λ plain ok.
-    let left = (out-BinaryExpression c.args.self.now).left in
-    let one = c.write_chain.ensures plain (search rules) in
-    put_two g.W.Write.write_str_gives _ _ _ _ _ _ one (c.write_after.ensures one.plain ok) (printed_left
-    (expression_node (binary_expression_view c.args.self.now) (span_view (spanned_span left))) (expression_node_view left)
-    (search (rules, the_lemmas)))
-
-pub indexing::IndexingExpressionDisplay::fmt-returns-clause-writes :
-    goal.indexing::IndexingExpressionDisplay::fmt-returns-clause-writes
-indexing::IndexingExpressionDisplay::fmt-returns-clause-writes g t c = λ plain ok.
-    let left = (out-IndexingExpression c.args.self.now).base in
-    let one = c.write_chain.ensures plain (search rules) in
-    put_two g.W.Write.write_str_gives _ _ _ _ _ _ one (c.write_after.ensures one.plain ok) (printed_left
-    (expression_node (indexing_expression_view c.args.self.now) (span_view (spanned_span left))) (expression_node_view left)
-    (search (rules, the_lemmas)))
-
-pub named_component::NamedComponentExpressionDisplay::fmt-returns-clause-writes :
-    goal.named_component::NamedComponentExpressionDisplay::fmt-returns-clause-writes
-named_component::NamedComponentExpressionDisplay::fmt-returns-clause-writes g t c = λ plain ok.
-    let left = (out-NamedComponentExpression c.args.self.now).base in
-    let one = c.write_chain.ensures plain (search rules) in
-    put_two g.W.Write.write_str_gives _ _ _ _ _ _ one (c.write_after.ensures one.plain ok) (printed_left
-    (expression_node (named_component_expression_view c.args.self.now) (span_view (spanned_span left))) (expression_node_view left)
-    (search (rules, the_lemmas)))
-
-pub function_call::FunctionCallDisplay::fmt-arguments-preserved :
-    goal.function_call::FunctionCallDisplay::fmt-arguments-preserved
-function_call::FunctionCallDisplay::fmt-arguments-preserved g t c =
-    let items = c.deref-argument-items.result.now in
-    let k = c.arguments.argument-index in
-    let text = λ (n : Spanned Expression). print_expression (expression_view n.node.value) in (
-      sym (before_next (codes ", ") k),
-      search rules,
-      λ plain.
-          let one = c.arguments.invariant.2 plain in
-          put_two g.W.Write.write_str_gives _ _ _ _ _ _ one (c.write-in-arguments.ensures.writes one.plain (search rules))
-          (ap (λ b. join_by text (codes ", ") (take k items) ++ (b ++ text c.argument-item.result)) c.arguments.invariant.0
-          ∙ joined_more text (codes ", ") items k c.argument-item.result (search rules) c.argument-item.is),
-    )
-
-pub type_expression::TypeExpressionDisplay::fmt-arguments-preserved :
-    goal.type_expression::TypeExpressionDisplay::fmt-arguments-preserved
-type_expression::TypeExpressionDisplay::fmt-arguments-preserved g t c =
-    let items = c.deref-argument-items.result.now in
-    let k = c.arguments.argument-index in
-    let text = λ (a : TemplateArg). print_expression_node (template_arg_view a) in (
-      sym (before_next (codes ", ") k),
-      search rules,
-      λ plain.
-          let one = c.arguments.invariant.2 plain in
-          put_two g.W.Write.write_str_gives _ _ _ _ _ _ one (c.write-in-arguments.ensures.writes one.plain (search rules))
-          (ap (λ b. join_by text (codes ", ") (take k items) ++ (b ++ text c.argument-item.result)) c.arguments.invariant.0
-          ∙ joined_more text (codes ", ") items k c.argument-item.result (search rules) c.argument-item.is),
-    )
-
-pub chain::write_above-returns : goal.chain::write_above-returns
-chain::write_above-returns g t c = grind (the_lemmas, arith, common_steps)
