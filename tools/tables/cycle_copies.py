@@ -2,7 +2,6 @@
 parts that may be left out, and the proofs that a copy is seen as its node is."""
 from cycle_parts import LIBRARY, imports
 from node_table import TABLE, snake
-from plain_trees import constructor, is_apart
 from tree_terms import bracketed
 
 # the kinds that contain each other, by their crates
@@ -117,25 +116,14 @@ class Answers:
                    "c.in_ok-clone_with-in-Some.ensures.copy ∙ "
                    f"sym (ap (option_map {view}) c.in-Some.is)\n")
 
-    def made(self, part):
-        """What makes the plain tree of a variant of what it holds, if that is not one itself."""
-        root, held = self.cycle.root, self.cycle.table.by_name[part.held]
-        if self.cycle.views[part.held].plain == root.name:
-            return ""
-        if not is_apart(held):
-            return "ap plain.block_statement "
-        return f"ap (plain.as_statement plain.{constructor(root, part.name)}) "
-
-    def variants(self):
-        """That a variant is copied, since what it holds is."""
-        root = self.cycle.root
-        seen = f"ap (λ (s : {root.name}). {snake(root.name)}_view s)"
-        for part in filter(lambda it: it.held, self.cycle.parts(root)):
-            name, is_ = f"in_ok-clone_with-in-{part.name}", f"is_{snake(part.name)}"
-            goal = f"{root.name}CloneWith::clone_with-returns-{name}"
-            yield (f"pub {goal} : goal.{goal}\n{goal} t c = record {{ copy = {is_} _ ∙ "
-                   f"{self.made(part)}c.{name}.ensures.copy ∙ "
-                   f"sym ({seen} c.in-{part.name}.is ∙ {is_} _) }}\n")
+    def blocks(self):
+        """That a block as a statement is copied: its plain tree has the parts of the block."""
+        root, name = self.cycle.root, "in_ok-clone_with-in-Compound"
+        goal = f"{root.name}CloneWith::clone_with-returns-{name}"
+        if "Compound" in dict(root.parts):
+            yield (f"pub {goal} : goal.{goal}\n{goal} t c = record {{ copy = is_compound _ ∙ "
+                   f"ap block_statement c.{name}.ensures.copy ∙ sym (ap (λ (s : {root.name}). "
+                   f"{snake(root.name)}_view s) c.in-Compound.is ∙ is_compound _) }}\n")
 
     def text(self):
         """The file of the proofs."""
@@ -143,7 +131,7 @@ class Answers:
         lists = [part for part in own if part.is_list]
         texts = [it for part in lists for it in self.listed(part)]
         texts += [it for part in own if part.is_optional for it in self.optional(part)]
-        body = "\n".join([*map(self.struct, cycle.structs), *texts, *self.variants()])
+        body = "\n".join([*map(self.struct, cycle.structs), *texts, *self.blocks()])
         root, crate = cycle.root.name, f"Rattle.wgsl_tree_{cycle.crate}"
         trees = f"Rattle.wgsl_model.specs.{cycle.views[root].file}"
         others = {COMMON: ["rules", "◌≡◌", "◌∙◌", "sym", "ap", "map", "Some"],

@@ -306,13 +306,7 @@ class Answers:
         index = "c.index-a-i.is c.index-b-i.is c.items.invariant"
         differ = (f"    let differ : same ({item} c.index-a-i.result) ({item} c.index-b-i.result) "
                   "≡ false = search rules in\n")
-        alike = differ.replace("differ", "alike").replace("false", "true")
         found = "(search rules) (search rules)"
-        name, rest = f"{stem}_equal-items-preserved", "drop (c.items.i + 1)"
-        yield (f"pub {name} : goal.{name}\n{name} t c =\n{lets}{alike}"
-               f"    c.items.invariant ∙ next_same {item} xs ys c.items.i _ _ {found} "
-               f"c.index-a-i.is c.index-b-i.is ∙ "
-               f"ap (λ b. b && all_same {item} ({rest} xs) ({rest} ys)) alike\n")
         for goal, more, proof in [
                 ("-then-a-b", "", f"unlike {item} xs ys (λ e. search rules)"),
                 ("-then-not-eq", differ,
@@ -350,8 +344,7 @@ class Answers:
         texts = [it for kind in cycle.structs for it in self.struct(kind)]
         texts += [it for part in lists for it in self.listed(part)]
         body = "\n".join([*texts, "-- the kinds of statements", *self.variants()])
-        others = {COMMON: ["rules", "◌≡◌", "true", "false", "refl", "sym", "◌∙◌", "◌&&◌", "◌+◌",
-                           "drop", "ap"]}
+        others = {COMMON: ["rules", "◌≡◌", "true", "false", "refl", "sym", "◌∙◌", "◌&&◌"]}
         codes = "Rattle.wgsl_tree_code.specs"
         modules = [f"{codes}.{it}" for it in ("Code", "Same", "Lists", "ExpressionNodes",
                                               "StatementNodes")]

@@ -56,27 +56,14 @@ class Code:
     """Writes the functions."""
 
     def __init__(self, cycle, full):
-        self.cycle, self.full, self.own = cycle, full, cycle.own_parts()
-        self.structs = [kind for kind in cycle.structs if not self.block(kind.name)]
-        self.holders = [kind for kind in cycle.structs if self.block(kind.name)]
-
-    def block(self, held):
-        """The field of a kind that alone holds statements, which is a block; none if it has more."""
-        kind = self.cycle.table.by_name[held]
-        parts = list(filter(self.cycle.has, self.cycle.parts(kind)))
-        return parts[0].name if [part.held for part in parts] == ["CompoundStatement"] else ""
-
-    def removed(self, place, held):
-        """What removes the empty statements from a value at a place: of its block, if that alone
-        holds some."""
-        block = self.block(held)
-        return f"{place}{f'.{block}' if block else ''}.remove_voids()"
+        self.cycle, self.full = cycle, full
+        self.structs, self.own = cycle.structs, cycle.own_parts()
 
     def call(self, part):
         """What removes the empty statements from a part of a struct, if it has some."""
         if self.cycle.is_own(part):
             return f"remove_from_{self.cycle.stem(part.held)}(&mut self.{part.name});"
-        return f"{self.removed(f'self.{part.name}', part.held)};" if self.cycle.has(part) else ""
+        return f"self.{part.name}.remove_voids();" if self.cycle.has(part) else ""
 
     def method(self, kind):
         """The function of a kind."""
@@ -88,8 +75,7 @@ class Code:
         if kind.form == "enum":
             held = [part for part in self.cycle.parts(kind) if self.cycle.has(part)]
             others = [part for part in self.cycle.parts(kind) if part not in held]
-            arms = [f"{kind.name}::{part.name}(inner) => {self.removed('inner', part.held)},"
-                    for part in held]
+            arms = [f"{kind.name}::{part.name}(inner) => inner.remove_voids()," for part in held]
             left = " | ".join(f"{kind.name}::{part.name}{'(_)' if part.held else ''}"
                               for part in others)
             body = f"match self {{ {' '.join(arms)} {left} => {{}} }}"
@@ -104,10 +90,9 @@ class Code:
         item = f"{part.item}Node" if is_spanned else part.item
         node = ".node_mut()" if is_spanned else ""
         type_ = f"&mut {'Vec' if part.is_list else 'Option'}<{item}>"
-        body = f"if let Some(node) = part {{ {self.removed(f'node{node}', part.item)}; }}"
+        body = f"if let Some(node) = part {{ node{node}.remove_voids(); }}"
         if part.is_list:
-            removed = self.removed(f"part[i]{node}", part.item)
-            body = f"'items: for i in 0..part.len() {{ {removed}; }}"
+            body = f"'items: for i in 0..part.len() {{ part[i]{node}.remove_voids(); }}"
             body += " part.retain(|node| !node.node().is_void());" if is_spanned else ""
         items = ".items" if part.is_list else ""
         seen = [self.cycle.shown(part.held, f"part.{it}{items}") for it in ("new", "old")]
@@ -159,19 +144,6 @@ class Answers:
             call = base if counts[base] == 1 else f"{base}-{counts[base]}"
             yield part, f"c.{call}", f"c.{call}.new.{'part' if is_own else 'self'}"
 
-    def seen(self, part, ensures):
-        """That a part is without its empty statements, from what its call ensures."""
-        holds = not self.cycle.is_own(part) and self.code.block(part.item)
-        return f"{snake(part.item)}_full _ _ {ensures}" if holds else ensures
-
-    def changed(self, held, before, new):
-        """A value after a call on it or on its block, from that before it and what the call gave."""
-        block = self.code.block(held)
-        if not block:
-            return new
-        return (f"(layers.roll-{held} "
-                f"(record (layers.out-{held} {before}) {{ {block} = {new} }}))")
-
     def changes(self, kind):
         """What is shown of the parts that are changed one after another: the layer after each, and
         that it is the one before but for its part."""
@@ -182,12 +154,10 @@ class Answers:
             full = bracketed(self.full.of(part.held))
             seen = f"{full} ({self.cycle.shown(part.held, f'r.{part.name}{items}')})"
             more = f" ∙ ap (λ {layer}. {seen}) same_{at - 1}" if same else ""
+            yield f"let {part.name} = {call}.ensures{more} in"
+            change = f"{{ {part.name} = {new} }}"
             again = f"layers.out-{kind.name} (layers.roll-{kind.name}"
             before = f"({again} {state}))" if same else state
-            if not self.cycle.is_own(part):
-                new = self.changed(part.held, f"{before}.{part.name}", new)
-            yield f"let {part.name} = {self.seen(part, f'{call}.ensures')}{more} in"
-            change = f"{{ {part.name} = {new} }}"
             yield f"let changed_{at} = record {before} {change} in"
             clean = f"record clean_{at - 1} {change}" if same else f"changed_{at}"
             yield f"let clean_{at} : Opened layer.{kind.name}-F = {clean} in"
@@ -219,23 +189,6 @@ class Answers:
                 f"(λ i. {self.cycle.made(kind, values)}) ∙ "
                 f"sym (ap {full} ({name}_out c.args.self.now))\n")
 
-    def holder(self, kind):
-        """A lemma: a struct is without its empty statements where its block is."""
-        name, field = snake(kind.name), self.code.block(kind.name)
-        view, full = self.cycle.views[kind.name].name, bracketed(self.full.of(kind.name))
-        values = {part.name: "block i" if part.name == field
-                  else self.cycle.shown(part.held, f"original.{part.name}")
-                  for part in self.cycle.parts(kind)}
-        block = self.full.of("CompoundStatement")
-        changed = self.changed(kind.name, "x", "b")
-        return (f"{name}_full : (x : {kind.name}) (b : CompoundStatement)\n"
-                f"    → compound_statement_view b ≡ {block} "
-                f"(compound_statement_view (layers.out-{kind.name} x).{field})\n"
-                f"    → {view} {changed} ≡ {full} ({view} x)\n"
-                f"{name}_full x b block =\n    let original = layers.out-{kind.name} x in\n"
-                f"    {name}_roll _ ∙ (λ i. {self.cycle.made(kind, values)})\n"
-                f"    ∙ sym (ap {full} ({name}_out x))\n")
-
     def variants(self):
         """That a variant of a statement is without its empty statements where what it holds is."""
         root = self.cycle.root
@@ -249,12 +202,11 @@ class Answers:
             block = ("" if is_apart(kind)
                      else f" ∙ sym (block_full ({view} c.in-{part.name}.inner))")
             goal = f"{self.method(root)}-returns-in-{part.name}"
-            changed = self.changed(part.held, f"c.in-{part.name}.inner", f"{call}.new.self")
             yield (f"pub {goal} : goal.{goal}\nunfolding roll-{root.name} Carrier.roll\n"
-                   f"{goal} t c =\n    let seen = {self.seen(part, f'{call}.ensures')} ∙ "
+                   f"{goal} t c =\n    let seen = {call}.ensures ∙ "
                    f"ap (λ (b : {part.held}). {full} ({view} b)) "
                    f"c.in-{part.name}.inner-is in\n"
-                   f"    let whole = {is_} {changed} ∙ ap {made} seen{block} ∙ "
+                   f"    let whole = {is_} {call}.new.self ∙ ap {made} seen{block} ∙ "
                    f"sym (ap full_statement ({is_} c.in-{part.name}.inner)) in\n"
                    f"    rw c.in-{part.name}.is (search (rules, whole))\n")
 
@@ -269,10 +221,7 @@ class Answers:
         whole = f"λ (o : {cycle.type(part.held)}). {cycle.shown(part.held, 'o')}"
         done = f"λ (o : {cycle.type(part.held)}). {full} ({cycle.shown(part.held, 'o')})"
         one = f"plain.{OWN[part.held][2]}"
-        holds = self.code.block(part.item)
         lets, seen = "", "c.remove_voids.ensures"
-        if holds:
-            seen = f"({snake(part.item)}_full _ _ {seen})"
         if cycle.table.by_name[part.item].is_spanned:
             lets = ("    let x = c.in-Some.node in\n    let y = record x { node = record x.node "
                     "{ value = c.remove_voids.new.self } } in\n"
@@ -291,8 +240,6 @@ class Answers:
         item = "full_node" if is_spanned else self.full.of(part.item)
         given, x, y = "c.args.part.now.items", "c.index_mut.result.now", "c.remove_voids.new.self"
         lets, seen = "", "c.remove_voids.ensures"
-        if self.code.block(part.item):
-            y, seen = self.changed(part.item, x, y), f"({snake(part.item)}_full _ _ {seen})"
         if is_spanned:
             y = f"(record {x} {{ node = record {x}.node {{ value = {y} }} }})"
             lets = f"    let seen : {view} {y} ≡ {item} ({view} {x}) = search rules in\n"
@@ -334,9 +281,7 @@ class Answers:
         """The file of the proofs."""
         cycle = self.cycle
         texts = [it for part in self.code.own for it in self.function(part)]
-        body = "\n".join(["-- structs whose block alone holds statements",
-                          *map(self.holder, self.code.holders),
-                          *map(self.struct, self.code.structs), *texts, *self.variants()])
+        body = "\n".join([*map(self.struct, self.code.structs), *texts, *self.variants()])
         others = {COMMON: ["rules", "◌≡◌", "◌∙◌", "sym", "ap", "map", "Option"],
                   "Rattle.std.proofs.lemmas.List.Elements": ["filter_from_retain"],
                   **LIBRARY}

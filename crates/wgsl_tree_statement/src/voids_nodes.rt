@@ -4,29 +4,32 @@
 ghost use Rattle.std.specs.Option.{option_map};
 ghost use Rattle.std.specs.Prelude.{◌≡◌, map};
 ghost use Rattle.wgsl_model.specs.Trees.EmptyItems.{full_attributed, full_clauses, full_compound};
-ghost use Rattle.wgsl_model.specs.Trees.EmptyItems.{full_else, full_else_ifs, full_if};
-ghost use Rattle.wgsl_model.specs.Trees.EmptyItems.{full_maybe_continuing, full_part};
-ghost use Rattle.wgsl_model.specs.Trees.EmptyItems.{full_statement, full_statements, full_switch};
-ghost use Rattle.wgsl_model.specs.Trees.EmptyItems.{without_empty};
-ghost use Rattle.wgsl_model.specs.Trees.Statements.{changed_for, changed_loop, clauses_of};
-ghost use Rattle.wgsl_model.specs.Trees.Statements.{continuing_of, else_ifs_of, else_of};
-ghost use Rattle.wgsl_model.specs.Trees.Statements.{maybe_statement};
+ghost use Rattle.wgsl_model.specs.Trees.EmptyItems.{full_continuing, full_else, full_else_clause};
+ghost use Rattle.wgsl_model.specs.Trees.EmptyItems.{full_else_if_clause, full_else_ifs, full_if};
+ghost use Rattle.wgsl_model.specs.Trees.EmptyItems.{full_if_clause, full_maybe_continuing};
+ghost use Rattle.wgsl_model.specs.Trees.EmptyItems.{full_part, full_statement, full_statements};
+ghost use Rattle.wgsl_model.specs.Trees.EmptyItems.{full_switch, full_switch_clause, without_empty};
+ghost use Rattle.wgsl_model.specs.Trees.Statements.{changed_for, changed_loop, changed_while};
+ghost use Rattle.wgsl_model.specs.Trees.Statements.{clauses_of, continuing_of, else_ifs_of};
+ghost use Rattle.wgsl_model.specs.Trees.Statements.{else_of, maybe_statement};
 ghost use Rattle.wgsl_tree_statement.specs.View.{compound_statement_view};
 ghost use Rattle.wgsl_tree_statement.specs.View.{continuing_statement_view, else_clause_view};
 ghost use Rattle.wgsl_tree_statement.specs.View.{else_if_clause_view, for_statement_view};
-ghost use Rattle.wgsl_tree_statement.specs.View.{if_statement_view, loop_statement_view};
-ghost use Rattle.wgsl_tree_statement.specs.View.{statement_node_view, statement_nodes_view};
-ghost use Rattle.wgsl_tree_statement.specs.View.{statement_view, switch_clause_view};
-ghost use Rattle.wgsl_tree_statement.specs.View.{switch_statement_view};
+ghost use Rattle.wgsl_tree_statement.specs.View.{if_clause_view, if_statement_view};
+ghost use Rattle.wgsl_tree_statement.specs.View.{loop_statement_view, statement_node_view};
+ghost use Rattle.wgsl_tree_statement.specs.View.{statement_nodes_view, statement_view};
+ghost use Rattle.wgsl_tree_statement.specs.View.{switch_clause_view, switch_statement_view};
+ghost use Rattle.wgsl_tree_statement.specs.View.{while_statement_view};
 
 use crate::compound::CompoundStatement;
 use crate::continuing::ContinuingStatement;
 use crate::else_clause::{ElseClause, ElseIfClause};
 use crate::for_statement::ForStatement;
-use crate::if_statement::IfStatement;
+use crate::if_statement::{IfClause, IfStatement};
 use crate::loop_statement::LoopStatement;
 use crate::statement::{Statement, StatementNode};
 use crate::switch::{SwitchClause, SwitchStatement};
+use crate::while_statement::WhileStatement;
 
 impl Statement {
     /// Removes the empty statements from every list of statements in it.
@@ -41,7 +44,7 @@ impl Statement {
             Statement::Switch(inner) => inner.remove_voids(),
             Statement::Loop(inner) => inner.remove_voids(),
             Statement::For(inner) => inner.remove_voids(),
-            Statement::While(inner) => inner.body.remove_voids(),
+            Statement::While(inner) => inner.remove_voids(),
             Statement::Void
             | Statement::Assignment(_)
             | Statement::Increment(_)
@@ -74,9 +77,39 @@ impl IfStatement {
         ensures { if_statement_view self.new
             ≡ full_attributed full_if (if_statement_view self.old) }
     {
-        self.if_clause.body.remove_voids();
+        self.if_clause.remove_voids();
         remove_from_else_ifs(&mut self.else_if_clauses);
         remove_from_else(&mut self.else_clause);
+    }
+}
+
+impl IfClause {
+    #[cycle(remove)]
+    pub(crate) fn remove_voids(&mut self)
+        ensures { if_clause_view self.new
+            ≡ full_if_clause (if_clause_view self.old) }
+    {
+        self.body.remove_voids();
+    }
+}
+
+impl ElseIfClause {
+    #[cycle(remove)]
+    pub(crate) fn remove_voids(&mut self)
+        ensures { else_if_clause_view self.new
+            ≡ full_else_if_clause (else_if_clause_view self.old) }
+    {
+        self.body.remove_voids();
+    }
+}
+
+impl ElseClause {
+    #[cycle(remove)]
+    pub(crate) fn remove_voids(&mut self)
+        ensures { else_clause_view self.new
+            ≡ full_else_clause (else_clause_view self.old) }
+    {
+        self.body.remove_voids();
     }
 }
 
@@ -87,6 +120,16 @@ impl SwitchStatement {
             ≡ full_attributed full_switch (switch_statement_view self.old) }
     {
         remove_from_clauses(&mut self.clauses);
+    }
+}
+
+impl SwitchClause {
+    #[cycle(remove)]
+    pub(crate) fn remove_voids(&mut self)
+        ensures { switch_clause_view self.new
+            ≡ full_switch_clause (switch_clause_view self.old) }
+    {
+        self.body.remove_voids();
     }
 }
 
@@ -113,6 +156,26 @@ impl ForStatement {
     }
 }
 
+impl WhileStatement {
+    #[cycle(remove)]
+    pub(crate) fn remove_voids(&mut self)
+        ensures { while_statement_view self.new
+            ≡ full_attributed (changed_while without_empty) (while_statement_view self.old) }
+    {
+        self.body.remove_voids();
+    }
+}
+
+impl ContinuingStatement {
+    #[cycle(remove)]
+    pub(crate) fn remove_voids(&mut self)
+        ensures { continuing_statement_view self.new
+            ≡ full_continuing (continuing_statement_view self.old) }
+    {
+        self.body.remove_voids();
+    }
+}
+
 #[cycle(remove)]
 fn remove_from_statements(part: &mut Vec<StatementNode>)
     ensures { statement_nodes_view part.new.items
@@ -130,7 +193,7 @@ fn remove_from_else_ifs(part: &mut Vec<ElseIfClause>)
         ≡ full_else_ifs (else_ifs_of (map else_if_clause_view part.old.items)) }
 {
     'items: for i in 0..part.len() {
-        part[i].body.remove_voids();
+        part[i].remove_voids();
     }
 }
 
@@ -140,7 +203,7 @@ fn remove_from_else(part: &mut Option<ElseClause>)
         ≡ full_else (else_of (option_map else_clause_view part.old)) }
 {
     if let Some(node) = part {
-        node.body.remove_voids();
+        node.remove_voids();
     }
 }
 
@@ -150,7 +213,7 @@ fn remove_from_clauses(part: &mut Vec<SwitchClause>)
         ≡ full_clauses (clauses_of (map switch_clause_view part.old.items)) }
 {
     'items: for i in 0..part.len() {
-        part[i].body.remove_voids();
+        part[i].remove_voids();
     }
 }
 
@@ -160,7 +223,7 @@ fn remove_from_maybe_continuing(part: &mut Option<ContinuingStatement>)
         ≡ full_maybe_continuing (continuing_of (option_map continuing_statement_view part.old)) }
 {
     if let Some(node) = part {
-        node.body.remove_voids();
+        node.remove_voids();
     }
 }
 

@@ -22,13 +22,12 @@ use Rattle.wgsl_tree_statement.specs.declared.switch.SwitchClause.{SwitchClause}
 use Rattle.wgsl_tree_statement.specs.declared.continuing.ContinuingStatement.{ContinuingStatement}
 use Rattle.wgsl_tree_simple.specs.View.{selector_view}
 use Rattle.wgsl_tree_statement.specs.View.{statement_view, statement_node_view, statement_nodes_view, compound_statement_view, else_clause_view, switch_clause_view, continuing_statement_view}
-use Rattle.wgsl_tree_statement.proofs.Views.{is_empty, is_compound, is_assignment, is_increment, is_decrement, is_if, is_switch, is_loop, is_for, is_while, is_break, is_continue, is_return, is_discard, is_function_call, is_const_assert, is_declaration, compound_statement_out, if_statement_out, switch_statement_out, switch_clause_out, loop_statement_out, for_statement_out, while_statement_out, if_clause_out, else_if_clause_out, else_clause_out, continuing_statement_out}
+use Rattle.wgsl_tree_statement.proofs.Views.{is_empty, is_compound, compound_statement_out, if_statement_out, switch_statement_out, switch_clause_out, loop_statement_out, for_statement_out, while_statement_out, if_clause_out, else_if_clause_out, else_clause_out, continuing_statement_out}
 use Rattle.wgsl_tree_statement.proofs.BlockStatements.{block_unended}
 use Rattle.wgsl_tree_simple.proofs.Blocks.{is_nil, not_nil, before_line, block_lines, block_more, statements_filled, clauses_filled}
 use Rattle.wgsl_tree_simple.proofs.Pieces.{compound_is, continuing_is, else_clause_is, else_if_clause_is, end_one_line, for_is, if_clause_is, if_is, loop_is, opened_is, statement_is, switch_clause_is, switch_is}
 use Rattle.wgsl_tree_simple.proofs.Writes.{◌▸◌}
 use Rattle.wgsl_tree_statement.proofs.Lines.{statement_lines, empty_more, statement_more, clause_lines, clause_more, else_if_text, else_if_more}
-use Rattle.wgsl_model.specs.Trees.Statements as plain
 use Rattle.wgsl_tree_statement.specs.declared.statement.Statement.TheViews as layers
 use Rattle.wgsl_tree_statement.proofs.+printing.Goals as goal
 
@@ -43,72 +42,6 @@ pub statement::write_unended-returns-in-Compound : goal.statement::write_unended
 statement::write_unended-returns-in-Compound g t c =
     let e = ap (λ (s : Statement). unended (statement_view s)) c.in-Compound.is ∙ ap unended
     (is_compound _) ∙ block_unended (compound_statement_view c.in-Compound.inner) in search rules
-
--- the text of a statement that is some variant
-unended_as : {s v : Statement} {p : plain.Statement} → s ≡ v → statement_view v ≡ p
-    → unended p ≡ unended (statement_view s)
-unended_as is shown = sym (ap (λ (s : Statement). unended (statement_view s)) is ∙ ap unended shown)
-
-pub statement::write_unended-returns-in-Assignment : goal.statement::write_unended-returns-in-Assignment
-statement::write_unended-returns-in-Assignment g t c = λ ok.
-    wrote_of_eq _ _ _ _ _ (unended_as c.in-Assignment.is (is_assignment _)) (c.write_value.ensures ok)
-
-pub statement::write_unended-returns-in-Increment : goal.statement::write_unended-returns-in-Increment
-statement::write_unended-returns-in-Increment g t c = λ ok.
-    wrote_of_eq _ _ _ _ _ (unended_as c.in-Increment.is (is_increment _)) (c.write_value-in-Increment.ensures ok)
-
-pub statement::write_unended-returns-in-Decrement : goal.statement::write_unended-returns-in-Decrement
-statement::write_unended-returns-in-Decrement g t c = λ ok.
-    wrote_of_eq _ _ _ _ _ (unended_as c.in-Decrement.is (is_decrement _)) (c.write_value-in-Decrement.ensures ok)
-
-pub statement::write_unended-returns-in-If : goal.statement::write_unended-returns-in-If
-statement::write_unended-returns-in-If g t c = λ ok.
-    wrote_of_eq _ _ _ _ _ (unended_as c.in-If.is (is_if _)) (c.write_if.ensures ok)
-
-pub statement::write_unended-returns-in-Switch : goal.statement::write_unended-returns-in-Switch
-statement::write_unended-returns-in-Switch g t c = λ ok.
-    wrote_of_eq _ _ _ _ _ (unended_as c.in-Switch.is (is_switch _)) (c.write_switch.ensures ok)
-
-pub statement::write_unended-returns-in-Loop : goal.statement::write_unended-returns-in-Loop
-statement::write_unended-returns-in-Loop g t c = λ ok.
-    wrote_of_eq _ _ _ _ _ (unended_as c.in-Loop.is (is_loop _)) (c.write_loop.ensures ok)
-
-pub statement::write_unended-returns-in-For : goal.statement::write_unended-returns-in-For
-statement::write_unended-returns-in-For g t c = λ ok.
-    wrote_of_eq _ _ _ _ _ (unended_as c.in-For.is (is_for _)) (c.write_for.ensures ok)
-
-pub statement::write_unended-returns-in-While : goal.statement::write_unended-returns-in-While
-statement::write_unended-returns-in-While g t c = λ ok.
-    wrote_of_eq _ _ _ _ _ (unended_as c.in-While.is (is_while _)) (c.write_while.ensures ok)
-
-pub statement::write_unended-returns-in-Break : goal.statement::write_unended-returns-in-Break
-statement::write_unended-returns-in-Break g t c = λ ok.
-    wrote_of_eq _ _ _ _ _ (unended_as c.in-Break.is (is_break _)) (c.write_value-in-Break.ensures ok)
-
-pub statement::write_unended-returns-in-Continue : goal.statement::write_unended-returns-in-Continue
-statement::write_unended-returns-in-Continue g t c = λ ok.
-    wrote_of_eq _ _ _ _ _ (unended_as c.in-Continue.is (is_continue _)) (c.write_value-in-Continue.ensures ok)
-
-pub statement::write_unended-returns-in-Return : goal.statement::write_unended-returns-in-Return
-statement::write_unended-returns-in-Return g t c = λ ok.
-    wrote_of_eq _ _ _ _ _ (unended_as c.in-Return.is (is_return _)) (c.write_value-in-Return.ensures ok)
-
-pub statement::write_unended-returns-in-Discard : goal.statement::write_unended-returns-in-Discard
-statement::write_unended-returns-in-Discard g t c = λ ok.
-    wrote_of_eq _ _ _ _ _ (unended_as c.in-Discard.is (is_discard _)) (c.write_value-in-Discard.ensures ok)
-
-pub statement::write_unended-returns-in-FunctionCall : goal.statement::write_unended-returns-in-FunctionCall
-statement::write_unended-returns-in-FunctionCall g t c = λ ok.
-    wrote_of_eq _ _ _ _ _ (unended_as c.in-FunctionCall.is (is_function_call _))
-    (c.write_value-in-FunctionCall.ensures ok)
-
-pub statement::write_unended-returns-in-ConstAssert : goal.statement::write_unended-returns-in-ConstAssert
-statement::write_unended-returns-in-ConstAssert g t c = λ ok.
-    wrote_of_eq _ _ _ _ _ (unended_as c.in-ConstAssert.is (is_const_assert _)) (c.write_value-in-ConstAssert.ensures ok)
-
-pub statement::write_unended-returns-in-Declaration : goal.statement::write_unended-returns-in-Declaration
-statement::write_unended-returns-in-Declaration g t c = λ ok.
-    wrote_of_eq _ _ _ _ _ (unended_as c.in-Declaration.is (is_declaration _)) (c.write_value-in-Declaration.ensures ok)
 
 -- texts one after another
 

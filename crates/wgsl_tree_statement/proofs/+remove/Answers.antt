@@ -9,20 +9,17 @@ use Rattle.wgsl_model.specs.Trees.Statements.{changed_for, changed_loop, changed
 use Rattle.wgsl_tree_expression.specs.View.{expression_node_view}
 use Rattle.wgsl_tree_attribute.specs.View.{attributes_view}
 use Rattle.wgsl_tree_simple.specs.View.{break_if_view, selector_view}
-use Rattle.wgsl_tree_statement.specs.View.{compound_statement_view, continuing_statement_view, else_clause_view, else_if_clause_view, for_statement_view, if_clause_view, if_statement_view, loop_statement_view, statement_node_view, statement_nodes_view, switch_clause_view, switch_statement_view, while_statement_view}
+use Rattle.wgsl_tree_statement.specs.View.{compound_statement_view, continuing_statement_view, else_clause_view, else_if_clause_view, for_statement_view, if_statement_view, loop_statement_view, statement_node_view, statement_nodes_view, switch_clause_view, switch_statement_view, while_statement_view}
 use Rattle.wgsl_tree_statement.proofs.Views.{Opened, compound_statement_out, compound_statement_roll, continuing_statement_out, continuing_statement_roll, else_clause_out, else_clause_roll, else_if_clause_out, else_if_clause_roll, for_statement_out, for_statement_roll, if_clause_out, if_clause_roll, if_statement_out, if_statement_roll, is_compound, is_for, is_if, is_loop, is_switch, is_while, loop_statement_out, loop_statement_roll, switch_clause_out, switch_clause_roll, switch_statement_out, switch_statement_roll, while_statement_out, while_statement_roll}
 use Rattle.wgsl_tree_statement.proofs.BlockStatements.{block_full}
 use Rattle.wgsl_tree_statement.proofs.EmptyStatements.{all_done, clauses_full, else_ifs_full, full_node, list_full, next_done}
 use Rattle.wgsl_tree_statement.specs.declared.compound.CompoundStatement.{CompoundStatement}
 use Rattle.wgsl_tree_statement.specs.declared.continuing.ContinuingStatement.{ContinuingStatement}
 use Rattle.wgsl_tree_statement.specs.declared.else_clause.ElseClause.{ElseClause}
-use Rattle.wgsl_tree_statement.specs.declared.else_clause.ElseIfClause.{ElseIfClause}
 use Rattle.wgsl_tree_statement.specs.declared.for_statement.ForStatement.{ForStatement}
-use Rattle.wgsl_tree_statement.specs.declared.if_statement.IfClause.{IfClause}
 use Rattle.wgsl_tree_statement.specs.declared.if_statement.IfStatement.{IfStatement}
 use Rattle.wgsl_tree_statement.specs.declared.loop_statement.LoopStatement.{LoopStatement}
 use Rattle.wgsl_tree_statement.specs.declared.statement.Statement.{Statement}
-use Rattle.wgsl_tree_statement.specs.declared.switch.SwitchClause.{SwitchClause}
 use Rattle.wgsl_tree_statement.specs.declared.switch.SwitchStatement.{SwitchStatement}
 use Rattle.wgsl_tree_statement.specs.declared.while_statement.WhileStatement.{WhileStatement}
 use Rattle.wgsl_model.specs.Trees.Statements as plain
@@ -31,65 +28,6 @@ use Rattle.wgsl_tree_statement.specs.declared.statement.Statement.TheOpen as lay
 use Rattle.wgsl_tree_statement.specs.declared.statement.Statement.TheViews.{roll-Statement}
 use denote.Hole.Carrier as Carrier
 use Rattle.wgsl_tree_statement.proofs.+remove.Goals as goal
-
--- structs whose block alone holds statements
-if_clause_full : (x : IfClause) (b : CompoundStatement)
-    → compound_statement_view b ≡ full_compound (compound_statement_view (layers.out-IfClause x).body)
-    → if_clause_view (layers.roll-IfClause (record (layers.out-IfClause x) { body = b }))
-    ≡ full_if_clause (if_clause_view x)
-if_clause_full x b block =
-    let original = layers.out-IfClause x in
-    if_clause_roll _ ∙ (λ i. plain.if_clause (expression_node_view original.expression) (block i))
-    ∙ sym (ap full_if_clause (if_clause_out x))
-
-else_if_clause_full : (x : ElseIfClause) (b : CompoundStatement)
-    → compound_statement_view b ≡ full_compound (compound_statement_view (layers.out-ElseIfClause x).body)
-    → else_if_clause_view (layers.roll-ElseIfClause (record (layers.out-ElseIfClause x) { body = b }))
-    ≡ full_else_if_clause (else_if_clause_view x)
-else_if_clause_full x b block =
-    let original = layers.out-ElseIfClause x in
-    else_if_clause_roll _ ∙ (λ i. plain.else_if_clause (attributes_view original.attributes.items)
-    (expression_node_view original.expression) (block i))
-    ∙ sym (ap full_else_if_clause (else_if_clause_out x))
-
-else_clause_full : (x : ElseClause) (b : CompoundStatement)
-    → compound_statement_view b ≡ full_compound (compound_statement_view (layers.out-ElseClause x).body)
-    → else_clause_view (layers.roll-ElseClause (record (layers.out-ElseClause x) { body = b }))
-    ≡ full_else_clause (else_clause_view x)
-else_clause_full x b block =
-    let original = layers.out-ElseClause x in
-    else_clause_roll _ ∙ (λ i. plain.else_clause (attributes_view original.attributes.items) (block i))
-    ∙ sym (ap full_else_clause (else_clause_out x))
-
-switch_clause_full : (x : SwitchClause) (b : CompoundStatement)
-    → compound_statement_view b ≡ full_compound (compound_statement_view (layers.out-SwitchClause x).body)
-    → switch_clause_view (layers.roll-SwitchClause (record (layers.out-SwitchClause x) { body = b }))
-    ≡ full_switch_clause (switch_clause_view x)
-switch_clause_full x b block =
-    let original = layers.out-SwitchClause x in
-    switch_clause_roll _ ∙ (λ i. plain.switch_clause (attributes_view original.attributes.items)
-    (map selector_view original.case_selectors.items) (block i))
-    ∙ sym (ap full_switch_clause (switch_clause_out x))
-
-while_statement_full : (x : WhileStatement) (b : CompoundStatement)
-    → compound_statement_view b ≡ full_compound (compound_statement_view (layers.out-WhileStatement x).body)
-    → while_statement_view (layers.roll-WhileStatement (record (layers.out-WhileStatement x) { body = b }))
-    ≡ (full_attributed (changed_while without_empty)) (while_statement_view x)
-while_statement_full x b block =
-    let original = layers.out-WhileStatement x in
-    while_statement_roll _ ∙ (λ i. with_attributes (attributes_view original.attributes.items)
-    (plain.repeat_while (expression_node_view original.condition) (block i)))
-    ∙ sym (ap (full_attributed (changed_while without_empty)) (while_statement_out x))
-
-continuing_statement_full : (x : ContinuingStatement) (b : CompoundStatement)
-    → compound_statement_view b ≡ full_compound (compound_statement_view (layers.out-ContinuingStatement x).body)
-    → continuing_statement_view (layers.roll-ContinuingStatement
-    (record (layers.out-ContinuingStatement x) { body = b })) ≡ full_continuing (continuing_statement_view x)
-continuing_statement_full x b block =
-    let original = layers.out-ContinuingStatement x in
-    continuing_statement_roll _ ∙ (λ i. plain.continuing (attributes_view original.attributes.items)
-    (block i) (option_map break_if_view original.break_if))
-    ∙ sym (ap full_continuing (continuing_statement_out x))
 
 pub compound::CompoundStatement::remove_voids-returns : goal.compound::CompoundStatement::remove_voids-returns
 compound::CompoundStatement::remove_voids-returns t c =
@@ -102,11 +40,8 @@ compound::CompoundStatement::remove_voids-returns t c =
 pub if_statement::IfStatement::remove_voids-returns : goal.if_statement::IfStatement::remove_voids-returns
 if_statement::IfStatement::remove_voids-returns t c =
     let original = layers.out-IfStatement c.args.self.now in
-    let if_clause = if_clause_full _ _ c.remove_voids.ensures in
-    let changed_1 = record original {
-      if_clause = (layers.roll-IfClause
-          (record (layers.out-IfClause original.if_clause) { body = c.remove_voids.new.self }));
-    } in
+    let if_clause = c.remove_voids.ensures in
+    let changed_1 = record original { if_clause = c.remove_voids.new.self } in
     let clean_1 : Opened layer.IfStatement-F = changed_1 in
     let same_1 : layers.out-IfStatement (layers.roll-IfStatement changed_1) ≡ clean_1 =
     layers.out-roll-IfStatement changed_1 in
@@ -126,6 +61,28 @@ if_statement::IfStatement::remove_voids-returns t c =
     (plain.if_else (if_clause i) (else_if_clauses i) (else_clause i)))
     ∙ sym (ap (full_attributed full_if) (if_statement_out c.args.self.now))
 
+pub if_statement::IfClause::remove_voids-returns : goal.if_statement::IfClause::remove_voids-returns
+if_statement::IfClause::remove_voids-returns t c =
+    let original = layers.out-IfClause c.args.self.now in
+    let body = c.remove_voids.ensures in
+    if_clause_roll _ ∙ (λ i. plain.if_clause (expression_node_view original.expression) (body i))
+    ∙ sym (ap full_if_clause (if_clause_out c.args.self.now))
+
+pub else_clause::ElseIfClause::remove_voids-returns : goal.else_clause::ElseIfClause::remove_voids-returns
+else_clause::ElseIfClause::remove_voids-returns t c =
+    let original = layers.out-ElseIfClause c.args.self.now in
+    let body = c.remove_voids.ensures in
+    else_if_clause_roll _ ∙ (λ i. plain.else_if_clause (attributes_view original.attributes.items)
+    (expression_node_view original.expression) (body i))
+    ∙ sym (ap full_else_if_clause (else_if_clause_out c.args.self.now))
+
+pub else_clause::ElseClause::remove_voids-returns : goal.else_clause::ElseClause::remove_voids-returns
+else_clause::ElseClause::remove_voids-returns t c =
+    let original = layers.out-ElseClause c.args.self.now in
+    let body = c.remove_voids.ensures in
+    else_clause_roll _ ∙ (λ i. plain.else_clause (attributes_view original.attributes.items) (body i))
+    ∙ sym (ap full_else_clause (else_clause_out c.args.self.now))
+
 pub switch::SwitchStatement::remove_voids-returns : goal.switch::SwitchStatement::remove_voids-returns
 switch::SwitchStatement::remove_voids-returns t c =
     let original = layers.out-SwitchStatement c.args.self.now in
@@ -134,6 +91,14 @@ switch::SwitchStatement::remove_voids-returns t c =
     ∙ (λ i. with_attributes (attributes_view original.attributes.items) (plain.switch
     (expression_node_view original.expression) (attributes_view original.body_attributes.items) (clauses i)))
     ∙ sym (ap (full_attributed full_switch) (switch_statement_out c.args.self.now))
+
+pub switch::SwitchClause::remove_voids-returns : goal.switch::SwitchClause::remove_voids-returns
+switch::SwitchClause::remove_voids-returns t c =
+    let original = layers.out-SwitchClause c.args.self.now in
+    let body = c.remove_voids.ensures in
+    switch_clause_roll _ ∙ (λ i. plain.switch_clause (attributes_view original.attributes.items)
+    (map selector_view original.case_selectors.items) (body i))
+    ∙ sym (ap full_switch_clause (switch_clause_out c.args.self.now))
 
 pub loop_statement::LoopStatement::remove_voids-returns : goal.loop_statement::LoopStatement::remove_voids-returns
 loop_statement::LoopStatement::remove_voids-returns t c =
@@ -175,6 +140,22 @@ for_statement::ForStatement::remove_voids-returns t c =
     (plain.repeat_for (initializer i) (option_map expression_node_view original.condition) (update i) (body i)))
     ∙ sym (ap (full_attributed (changed_for without_empty)) (for_statement_out c.args.self.now))
 
+pub while_statement::WhileStatement::remove_voids-returns : goal.while_statement::WhileStatement::remove_voids-returns
+while_statement::WhileStatement::remove_voids-returns t c =
+    let original = layers.out-WhileStatement c.args.self.now in
+    let body = c.remove_voids.ensures in
+    while_statement_roll _ ∙ (λ i. with_attributes (attributes_view original.attributes.items)
+    (plain.repeat_while (expression_node_view original.condition) (body i)))
+    ∙ sym (ap (full_attributed (changed_while without_empty)) (while_statement_out c.args.self.now))
+
+pub continuing::ContinuingStatement::remove_voids-returns : goal.continuing::ContinuingStatement::remove_voids-returns
+continuing::ContinuingStatement::remove_voids-returns t c =
+    let original = layers.out-ContinuingStatement c.args.self.now in
+    let body = c.remove_voids.ensures in
+    continuing_statement_roll _ ∙ (λ i. plain.continuing (attributes_view original.attributes.items)
+    (body i) (option_map break_if_view original.break_if))
+    ∙ sym (ap full_continuing (continuing_statement_out c.args.self.now))
+
 pub voids_nodes::remove_from_statements-items-preserved : goal.voids_nodes::remove_from_statements-items-preserved
 voids_nodes::remove_from_statements-items-preserved t c =
     let seen : statement_node_view (record c.index_mut.result.now {
@@ -194,10 +175,8 @@ voids_nodes::remove_from_statements-returns t c =
 pub voids_nodes::remove_from_else_ifs-items-preserved : goal.voids_nodes::remove_from_else_ifs-items-preserved
 voids_nodes::remove_from_else_ifs-items-preserved t c =
     next_done else_if_clause_view full_else_if_clause c.items.part.items c.args.part.now.items
-    c.items.i c.index_mut.result.now (layers.roll-ElseIfClause
-    (record (layers.out-ElseIfClause c.index_mut.result.now) { body = c.remove_voids.new.self }))
-    (search rules) c.index_mut.ensures.value
-    (else_if_clause_full _ _ c.remove_voids.ensures) c.items.invariant
+    c.items.i c.index_mut.result.now c.remove_voids.new.self
+    (search rules) c.index_mut.ensures.value c.remove_voids.ensures c.items.invariant
 
 pub voids_nodes::remove_from_else_ifs-returns : goal.voids_nodes::remove_from_else_ifs-returns
 voids_nodes::remove_from_else_ifs-returns t c =
@@ -207,7 +186,7 @@ voids_nodes::remove_from_else_ifs-returns t c =
 
 pub voids_nodes::remove_from_else-returns-in-Some : goal.voids_nodes::remove_from_else-returns-in-Some
 voids_nodes::remove_from_else-returns-in-Some t c =
-    ap plain.one_else (else_clause_full _ _ c.remove_voids.ensures)
+    ap plain.one_else c.remove_voids.ensures
     ∙ sym (ap (λ (o : Option ElseClause). full_else (else_of (option_map else_clause_view o))) c.in-Some.is)
 
 pub voids_nodes::remove_from_else-returns-in_default : goal.voids_nodes::remove_from_else-returns-in_default
@@ -218,10 +197,8 @@ voids_nodes::remove_from_else-returns-in_default t c =
 pub voids_nodes::remove_from_clauses-items-preserved : goal.voids_nodes::remove_from_clauses-items-preserved
 voids_nodes::remove_from_clauses-items-preserved t c =
     next_done switch_clause_view full_switch_clause c.items.part.items c.args.part.now.items
-    c.items.i c.index_mut.result.now (layers.roll-SwitchClause
-    (record (layers.out-SwitchClause c.index_mut.result.now) { body = c.remove_voids.new.self }))
-    (search rules) c.index_mut.ensures.value
-    (switch_clause_full _ _ c.remove_voids.ensures) c.items.invariant
+    c.items.i c.index_mut.result.now c.remove_voids.new.self
+    (search rules) c.index_mut.ensures.value c.remove_voids.ensures c.items.invariant
 
 pub voids_nodes::remove_from_clauses-returns : goal.voids_nodes::remove_from_clauses-returns
 voids_nodes::remove_from_clauses-returns t c =
@@ -232,8 +209,7 @@ voids_nodes::remove_from_clauses-returns t c =
 pub voids_nodes::remove_from_maybe_continuing-returns-in-Some :
     goal.voids_nodes::remove_from_maybe_continuing-returns-in-Some
 voids_nodes::remove_from_maybe_continuing-returns-in-Some t c =
-    ap plain.one_continuing (continuing_statement_full _ _ c.remove_voids.ensures)
-    ∙ sym (ap (λ (o : Option ContinuingStatement).
+    ap plain.one_continuing c.remove_voids.ensures ∙ sym (ap (λ (o : Option ContinuingStatement).
     full_maybe_continuing (continuing_of (option_map continuing_statement_view o))) c.in-Some.is)
 
 pub voids_nodes::remove_from_maybe_continuing-returns-in_default :
@@ -306,9 +282,8 @@ statement::Statement::remove_voids-returns-in-For t c =
 pub statement::Statement::remove_voids-returns-in-While : goal.statement::Statement::remove_voids-returns-in-While
 unfolding roll-Statement Carrier.roll
 statement::Statement::remove_voids-returns-in-While t c =
-    let seen = while_statement_full _ _ c.remove_voids-in-While.ensures ∙ ap (λ (b : WhileStatement).
+    let seen = c.remove_voids-in-While.ensures ∙ ap (λ (b : WhileStatement).
     full_attributed (changed_while without_empty) (while_statement_view b)) c.in-While.inner-is in
-    let whole = is_while (layers.roll-WhileStatement
-    (record (layers.out-WhileStatement c.in-While.inner) { body = c.remove_voids-in-While.new.self }))
-    ∙ ap (plain.as_statement plain.while_statement) seen ∙ sym (ap full_statement (is_while c.in-While.inner)) in
+    let whole = is_while c.remove_voids-in-While.new.self ∙ ap (plain.as_statement plain.while_statement) seen
+    ∙ sym (ap full_statement (is_while c.in-While.inner)) in
     rw c.in-While.is (search (rules, whole))

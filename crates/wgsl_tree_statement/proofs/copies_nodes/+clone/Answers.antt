@@ -3,12 +3,12 @@ use Rattle.std.proofs.Common.{rules, ◌≡◌, ◌∙◌, sym, ap, map, Some}
 use Rattle.std.proofs.lemmas.List.{take_all}
 use Rattle.std.specs.Option.{option_map}
 use Rattle.wgsl_model.specs.Trees.Attributed.{with_attributes}
-use Rattle.wgsl_model.specs.Trees.Statements.{clauses_of, continuing_of, else_ifs_of, else_of, maybe_statement}
+use Rattle.wgsl_model.specs.Trees.Statements.{block_statement, clauses_of, continuing_of, else_ifs_of, else_of, maybe_statement}
 use Rattle.wgsl_tree_expression.specs.View.{expression_node_view}
 use Rattle.wgsl_tree_simple.specs.View.{break_if_view, selector_view}
 use Rattle.wgsl_tree_attribute.proofs.Copies.{items_copied, maybe_expression_copied, option_copied}
 use Rattle.wgsl_tree_statement.specs.View.{continuing_statement_view, else_clause_view, else_if_clause_view, statement_node_view, statement_nodes_view, statement_view, switch_clause_view}
-use Rattle.wgsl_tree_statement.proofs.Views.{compound_statement_out, compound_statement_roll, continuing_statement_out, continuing_statement_roll, else_clause_out, else_clause_roll, else_if_clause_out, else_if_clause_roll, for_statement_out, for_statement_roll, if_clause_out, if_clause_roll, if_statement_out, if_statement_roll, is_assignment, is_break, is_compound, is_const_assert, is_continue, is_declaration, is_decrement, is_discard, is_for, is_function_call, is_if, is_increment, is_loop, is_return, is_switch, is_while, loop_statement_out, loop_statement_roll, switch_clause_out, switch_clause_roll, switch_statement_out, switch_statement_roll, while_statement_out, while_statement_roll}
+use Rattle.wgsl_tree_statement.proofs.Views.{compound_statement_out, compound_statement_roll, continuing_statement_out, continuing_statement_roll, else_clause_out, else_clause_roll, else_if_clause_out, else_if_clause_roll, for_statement_out, for_statement_roll, if_clause_out, if_clause_roll, if_statement_out, if_statement_roll, is_compound, loop_statement_out, loop_statement_roll, switch_clause_out, switch_clause_roll, switch_statement_out, switch_statement_roll, while_statement_out, while_statement_roll}
 use Rattle.wgsl_tree_statement.proofs.Copies.{item_more, node_more}
 use Rattle.wgsl_tree_statement.specs.declared.statement.Statement.{Statement}
 use Rattle.wgsl_model.specs.Trees.Statements as plain
@@ -196,119 +196,6 @@ clone_part-returns-in-None t c = sym (ap (option_map statement_node_view) c.in-N
 pub StatementCloneWith::clone_with-returns-in_ok-clone_with-in-Compound :
     goal.StatementCloneWith::clone_with-returns-in_ok-clone_with-in-Compound
 StatementCloneWith::clone_with-returns-in_ok-clone_with-in-Compound t c = record {
-  copy = is_compound _ ∙ ap plain.block_statement c.in_ok-clone_with-in-Compound.ensures.copy
+  copy = is_compound _ ∙ ap block_statement c.in_ok-clone_with-in-Compound.ensures.copy
       ∙ sym (ap (λ (s : Statement). statement_view s) c.in-Compound.is ∙ is_compound _);
-}
-
-pub StatementCloneWith::clone_with-returns-in_ok-clone_with-in-Assignment :
-    goal.StatementCloneWith::clone_with-returns-in_ok-clone_with-in-Assignment
-StatementCloneWith::clone_with-returns-in_ok-clone_with-in-Assignment t c = record {
-  copy = is_assignment _
-      ∙ ap (plain.as_statement plain.assignment) c.in_ok-clone_with-in-Assignment.ensures.copy
-      ∙ sym (ap (λ (s : Statement). statement_view s) c.in-Assignment.is ∙ is_assignment _);
-}
-
-pub StatementCloneWith::clone_with-returns-in_ok-clone_with-in-Increment :
-    goal.StatementCloneWith::clone_with-returns-in_ok-clone_with-in-Increment
-StatementCloneWith::clone_with-returns-in_ok-clone_with-in-Increment t c = record {
-  copy = is_increment _
-      ∙ ap (plain.as_statement plain.increment) c.in_ok-clone_with-in-Increment.ensures.copy
-      ∙ sym (ap (λ (s : Statement). statement_view s) c.in-Increment.is ∙ is_increment _);
-}
-
-pub StatementCloneWith::clone_with-returns-in_ok-clone_with-in-Decrement :
-    goal.StatementCloneWith::clone_with-returns-in_ok-clone_with-in-Decrement
-StatementCloneWith::clone_with-returns-in_ok-clone_with-in-Decrement t c = record {
-  copy = is_decrement _
-      ∙ ap (plain.as_statement plain.decrement) c.in_ok-clone_with-in-Decrement.ensures.copy
-      ∙ sym (ap (λ (s : Statement). statement_view s) c.in-Decrement.is ∙ is_decrement _);
-}
-
-pub StatementCloneWith::clone_with-returns-in_ok-clone_with-in-If :
-    goal.StatementCloneWith::clone_with-returns-in_ok-clone_with-in-If
-StatementCloneWith::clone_with-returns-in_ok-clone_with-in-If t c = record {
-  copy = is_if _ ∙ ap (plain.as_statement plain.if_statement) c.in_ok-clone_with-in-If.ensures.copy
-      ∙ sym (ap (λ (s : Statement). statement_view s) c.in-If.is ∙ is_if _);
-}
-
-pub StatementCloneWith::clone_with-returns-in_ok-clone_with-in-Switch :
-    goal.StatementCloneWith::clone_with-returns-in_ok-clone_with-in-Switch
-StatementCloneWith::clone_with-returns-in_ok-clone_with-in-Switch t c = record {
-  copy = is_switch _
-      ∙ ap (plain.as_statement plain.switch_statement) c.in_ok-clone_with-in-Switch.ensures.copy
-      ∙ sym (ap (λ (s : Statement). statement_view s) c.in-Switch.is ∙ is_switch _);
-}
-
-pub StatementCloneWith::clone_with-returns-in_ok-clone_with-in-Loop :
-    goal.StatementCloneWith::clone_with-returns-in_ok-clone_with-in-Loop
-StatementCloneWith::clone_with-returns-in_ok-clone_with-in-Loop t c = record {
-  copy = is_loop _ ∙ ap (plain.as_statement plain.loop_statement) c.in_ok-clone_with-in-Loop.ensures.copy
-      ∙ sym (ap (λ (s : Statement). statement_view s) c.in-Loop.is ∙ is_loop _);
-}
-
-pub StatementCloneWith::clone_with-returns-in_ok-clone_with-in-For :
-    goal.StatementCloneWith::clone_with-returns-in_ok-clone_with-in-For
-StatementCloneWith::clone_with-returns-in_ok-clone_with-in-For t c = record {
-  copy = is_for _ ∙ ap (plain.as_statement plain.for_statement) c.in_ok-clone_with-in-For.ensures.copy
-      ∙ sym (ap (λ (s : Statement). statement_view s) c.in-For.is ∙ is_for _);
-}
-
-pub StatementCloneWith::clone_with-returns-in_ok-clone_with-in-While :
-    goal.StatementCloneWith::clone_with-returns-in_ok-clone_with-in-While
-StatementCloneWith::clone_with-returns-in_ok-clone_with-in-While t c = record {
-  copy = is_while _ ∙ ap (plain.as_statement plain.while_statement) c.in_ok-clone_with-in-While.ensures.copy
-      ∙ sym (ap (λ (s : Statement). statement_view s) c.in-While.is ∙ is_while _);
-}
-
-pub StatementCloneWith::clone_with-returns-in_ok-clone_with-in-Break :
-    goal.StatementCloneWith::clone_with-returns-in_ok-clone_with-in-Break
-StatementCloneWith::clone_with-returns-in_ok-clone_with-in-Break t c = record {
-  copy = is_break _ ∙ c.in_ok-clone_with-in-Break.ensures.copy
-      ∙ sym (ap (λ (s : Statement). statement_view s) c.in-Break.is ∙ is_break _);
-}
-
-pub StatementCloneWith::clone_with-returns-in_ok-clone_with-in-Continue :
-    goal.StatementCloneWith::clone_with-returns-in_ok-clone_with-in-Continue
-StatementCloneWith::clone_with-returns-in_ok-clone_with-in-Continue t c = record {
-  copy = is_continue _ ∙ c.in_ok-clone_with-in-Continue.ensures.copy
-      ∙ sym (ap (λ (s : Statement). statement_view s) c.in-Continue.is ∙ is_continue _);
-}
-
-pub StatementCloneWith::clone_with-returns-in_ok-clone_with-in-Return :
-    goal.StatementCloneWith::clone_with-returns-in_ok-clone_with-in-Return
-StatementCloneWith::clone_with-returns-in_ok-clone_with-in-Return t c = record {
-  copy = is_return _
-      ∙ ap (plain.as_statement plain.return_statement) c.in_ok-clone_with-in-Return.ensures.copy
-      ∙ sym (ap (λ (s : Statement). statement_view s) c.in-Return.is ∙ is_return _);
-}
-
-pub StatementCloneWith::clone_with-returns-in_ok-clone_with-in-Discard :
-    goal.StatementCloneWith::clone_with-returns-in_ok-clone_with-in-Discard
-StatementCloneWith::clone_with-returns-in_ok-clone_with-in-Discard t c = record {
-  copy = is_discard _ ∙ c.in_ok-clone_with-in-Discard.ensures.copy
-      ∙ sym (ap (λ (s : Statement). statement_view s) c.in-Discard.is ∙ is_discard _);
-}
-
-pub StatementCloneWith::clone_with-returns-in_ok-clone_with-in-FunctionCall :
-    goal.StatementCloneWith::clone_with-returns-in_ok-clone_with-in-FunctionCall
-StatementCloneWith::clone_with-returns-in_ok-clone_with-in-FunctionCall t c = record {
-  copy = is_function_call _
-      ∙ ap (plain.as_statement plain.function_call_statement) c.in_ok-clone_with-in-FunctionCall.ensures.copy
-      ∙ sym (ap (λ (s : Statement). statement_view s) c.in-FunctionCall.is ∙ is_function_call _);
-}
-
-pub StatementCloneWith::clone_with-returns-in_ok-clone_with-in-ConstAssert :
-    goal.StatementCloneWith::clone_with-returns-in_ok-clone_with-in-ConstAssert
-StatementCloneWith::clone_with-returns-in_ok-clone_with-in-ConstAssert t c = record {
-  copy = is_const_assert _
-      ∙ ap (plain.as_statement plain.const_assert) c.in_ok-clone_with-in-ConstAssert.ensures.copy
-      ∙ sym (ap (λ (s : Statement). statement_view s) c.in-ConstAssert.is ∙ is_const_assert _);
-}
-
-pub StatementCloneWith::clone_with-returns-in_ok-clone_with-in-Declaration :
-    goal.StatementCloneWith::clone_with-returns-in_ok-clone_with-in-Declaration
-StatementCloneWith::clone_with-returns-in_ok-clone_with-in-Declaration t c = record {
-  copy = is_declaration _
-      ∙ ap (plain.as_statement plain.declaration) c.in_ok-clone_with-in-Declaration.ensures.copy
-      ∙ sym (ap (λ (s : Statement). statement_view s) c.in-Declaration.is ∙ is_declaration _);
 }

@@ -1,8 +1,8 @@
 -- Written by tools/tables/tree_equalities.py from crates/wgsl_model/nodes.
-use Rattle.std.proofs.Common.{rules, ◌≡◌, true, false, refl, sym, ◌∙◌, ◌&&◌, ◌+◌, drop, ap}
+use Rattle.std.proofs.Common.{rules, ◌≡◌, false, refl, sym, ◌∙◌, ◌&&◌}
 use Rattle.wgsl_tree_code.specs.Code.{attributed_code}
 use Rattle.wgsl_tree_code.specs.Same.{same}
-use Rattle.wgsl_tree_code.specs.Lists.{all_same, next_differs, next_same, none_left, unlike}
+use Rattle.wgsl_tree_code.specs.Lists.{next_differs, none_left, unlike}
 use Rattle.wgsl_tree_code.specs.ExpressionNodes.{expression_node_code}
 use Rattle.wgsl_tree_code.specs.StatementNodes.{break_if_code, selector_code}
 use Rattle.wgsl_tree_expression.specs.View.{expression_node_view}
@@ -374,15 +374,6 @@ ContinuingStatementPartialEq::eq-returns-else-eq-2 t c =
     ] in
     and_false _ c.if-eq-2.false tested_2 refl ∙ sym (continuing_statement_same c.args.self.now c.args.other.now)
 
-pub statements_equal-items-preserved : goal.statements_equal-items-preserved
-statements_equal-items-preserved t c =
-    let xs = c.args.a.now in
-    let ys = c.args.b.now in
-    let alike : same (statements_item c.index-a-i.result) (statements_item c.index-b-i.result) ≡ true = search rules in
-    c.items.invariant
-    ∙ next_same statements_item xs ys c.items.i _ _ (search rules) (search rules) c.index-a-i.is c.index-b-i.is
-    ∙ ap (λ b. b && all_same statements_item (drop (c.items.i + 1) xs) (drop (c.items.i + 1) ys)) alike
-
 pub statements_equal-returns-then-a-b : goal.statements_equal-returns-then-a-b
 statements_equal-returns-then-a-b t c =
     let xs = c.args.a.now in
@@ -405,15 +396,6 @@ statements_equal-returns t c =
     sym (statements_same xs ys
     ∙ none_left statements_item xs ys c.items.i (search rules) (search rules) c.items.invariant)
 
-pub else_ifs_equal-items-preserved : goal.else_ifs_equal-items-preserved
-else_ifs_equal-items-preserved t c =
-    let xs = c.args.a.now in
-    let ys = c.args.b.now in
-    let alike : same (else_ifs_item c.index-a-i.result) (else_ifs_item c.index-b-i.result) ≡ true = search rules in
-    c.items.invariant
-    ∙ next_same else_ifs_item xs ys c.items.i _ _ (search rules) (search rules) c.index-a-i.is c.index-b-i.is
-    ∙ ap (λ b. b && all_same else_ifs_item (drop (c.items.i + 1) xs) (drop (c.items.i + 1) ys)) alike
-
 pub else_ifs_equal-returns-then-a-b : goal.else_ifs_equal-returns-then-a-b
 else_ifs_equal-returns-then-a-b t c =
     let xs = c.args.a.now in
@@ -433,15 +415,6 @@ else_ifs_equal-returns t c =
     let xs = c.args.a.now in
     let ys = c.args.b.now in
     sym (else_ifs_same xs ys ∙ none_left else_ifs_item xs ys c.items.i (search rules) (search rules) c.items.invariant)
-
-pub clauses_equal-items-preserved : goal.clauses_equal-items-preserved
-clauses_equal-items-preserved t c =
-    let xs = c.args.a.now in
-    let ys = c.args.b.now in
-    let alike : same (clauses_item c.index-a-i.result) (clauses_item c.index-b-i.result) ≡ true = search rules in
-    c.items.invariant
-    ∙ next_same clauses_item xs ys c.items.i _ _ (search rules) (search rules) c.index-a-i.is c.index-b-i.is
-    ∙ ap (λ b. b && all_same clauses_item (drop (c.items.i + 1) xs) (drop (c.items.i + 1) ys)) alike
 
 pub clauses_equal-returns-then-a-b : goal.clauses_equal-returns-then-a-b
 clauses_equal-returns-then-a-b t c =
