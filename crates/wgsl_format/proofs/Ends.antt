@@ -29,8 +29,8 @@ abbrev status : ProcessOutput → ℕ
 status o = o.status
 
 -- the statuses of what a report asks for
-pub outcome_within : {K : Type 0} (report : Report K) → (outcome_of report).status ≤ 4
-outcome_within (reports.Written text kept) = omega arith
+pub outcome_within : (report : Report) → (outcome_of report).status ≤ 4
+outcome_within (reports.Written text) = omega arith
 outcome_within (reports.Refused line) = omega arith
 outcome_within reports.NotUtf8 = omega arith
 outcome_within reports.OutOfMemory = omega arith

@@ -27,8 +27,8 @@ is_fault IsFault e (inl memory) other = absurd (other (ap (λ (x : Error). x.err
 is_fault IsFault e (inr fault) other = fault
 
 -- A report of an error is what a program writes of bytes for which this fault is named.
-pub refused_writes : {K : Type 0} (Writes : List ℕ → ProcessOutput → Type 0)
-    (IsFault : Fault → Type 0) (bytes : List ℕ) (e : Error) (made : Result (Report K) AllocError)
+pub refused_writes : (Writes : List ℕ → ProcessOutput → Type 0)
+    (IsFault : Fault → Type 0) (bytes : List ℕ) (e : Error) (made : Result Report AllocError)
     → ((x : Fault) → IsFault x → Writes bytes (complaint 1 (shown_fault x ++ codes "\n")))
     → (e ≡ error_at parse.OutOfMemory 0 0) ⊎ IsFault (fault_view e)
     → IfOk made (λ report. outcome_of report ≡ complaint 1 (shown_fault (fault_view e) ++ codes "\n"))
@@ -39,7 +39,7 @@ refused_writes Writes IsFault bytes e (Ok report) writes named told other = subs
 refused_writes Writes IsFault bytes e (Err memory) writes named told other = told
 
 -- and no text is made of these bytes
-pub refused_makes : {K : Type 0} (IsMade : List ℕ → Type 0) (line : List ℕ) (made : Result (Report K) AllocError)
+pub refused_makes : (IsMade : List ℕ → Type 0) (line : List ℕ) (made : Result Report AllocError)
     → IfOk made (λ report. outcome_of report ≡ complaint 1 line)
     → IfOk made (λ report. (outcome_of report).status ≡ 0 → IsMade (outcome_of report).output)
 refused_makes IsMade line (Ok report) named =

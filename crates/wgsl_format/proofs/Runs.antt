@@ -12,10 +12,10 @@ use Rattle.wgsl_format.specs.Report.{outcome_of}
 use Rattle.wgsl_format.specs.Run.{Runs}
 use Rattle.wgsl_format.proofs.Ends.{owed_is, outcome_within, ends_within, unread_status, read_early, unread_spared, end_written}
 
-pub run_holds : {Output K : Type 0} (Writes : List ℕ → ProcessOutput → Type 0) (IsMadeOf : List ℕ
+pub run_holds : {Output : Type 0} (Writes : List ℕ → ProcessOutput → Type 0) (IsMadeOf : List ℕ
     → List ℕ → Type 0) (input left : Option (List ℕ)) (contents : Output → Option (List ℕ))
     (output written : Output) (errors told : Option (List ℕ)) (status : ℕ)
-    (read : Result (Vec ℕ Global) ReadError) (report : Report K)
+    (read : Result (Vec ℕ Global) ReadError) (report : Report)
     → IfOk read (λ all. IsInput input all.items) → OnOk read (IsAtEnd left)
     → IsDue Writes read (outcome_of report)
     → IfOk read (λ all. (outcome_of report).status ≡ 0 → IsMadeOf all.items (outcome_of report).output)

@@ -6,8 +6,8 @@ use Rattle.wgsl_format.specs.declared.report.Report.{Report}
 use Rattle.wgsl_format.specs.declared.report.Report.TheVariants.{Written, Refused, NotUtf8, OutOfMemory, Unread}
 
 -- the status of the report and its text, for the output or for the errors
-abbrev pub outcome_of : {K : Type 0} → Report K → ProcessOutput
-outcome_of (Written text kept) = record { status = 0; output = string_bytes text; errors = [] }
+abbrev pub outcome_of : Report → ProcessOutput
+outcome_of (Written text) = record { status = 0; output = string_bytes text; errors = [] }
 outcome_of (Refused line) = complaint 1 (string_bytes line)
 outcome_of NotUtf8 = complaint 2 (codes "input is not UTF-8\n")
 outcome_of OutOfMemory = out_of_memory

@@ -9,9 +9,6 @@ use std::alloc::{AllocError, Global};
 
 /// A formatter of the bytes that a program reads.
 pub trait Formatter {
-    /// What its text is made of.
-    type Kept: Drop;
-
     /// What it has to write of these bytes.
     ghost writes: { Self → List ℕ → ProcessOutput → Type 0 };
 
@@ -19,7 +16,7 @@ pub trait Formatter {
     ghost is_made_of: { Self → List ℕ → List ℕ → Type 0 };
 
     /// Returns what is to be written for the source.
-    fn report(&self, alloc: Global, source: &[u8]) -> Result<Report<Self::Kept>, AllocError>
+    fn report(&self, alloc: Global, source: &[u8]) -> Result<Report, AllocError>
         ensures due { IfOk result (λ report. writes self.now source.now (outcome_of report)) }
         ensures made { IfOk result (λ report. (outcome_of report).status ≡ 0 →
             is_made_of self.now source.now (outcome_of report).output) };

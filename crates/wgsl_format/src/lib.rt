@@ -14,9 +14,9 @@ mod tidier;
 
 pub use formatter::Formatter;
 pub use printer::Printer;
-pub use program::run;
+pub use program::run_with;
 pub use report::Report;
-pub use start::start_keeping;
+pub use start::{run, start, start_with};
 pub use streams::{ReadError, read_all, refuse_memory, send};
 pub use tidied::{tidy, tidy_with, tidy_within};
 pub use tidier::Tidier;

@@ -13,7 +13,7 @@ use std::io::{Read, Write};
 
 /// Reads all of the input, then writes what it asks for to the output or to the errors, and flushes
 /// that one. Where a read failed, nothing is written.
-pub fn run<F: Formatter, R: Read, W: Write, E: Write>(
+pub fn run_with<F: Formatter, R: Read, W: Write, E: Write>(
     alloc: Global,
     format: &F,
     input: &mut R,
@@ -29,11 +29,7 @@ pub fn run<F: Formatter, R: Read, W: Write, E: Write>(
 }
 
 /// What is to be written of what was read.
-pub(crate) fn report_of<F: Formatter>(
-    alloc: Global,
-    format: &F,
-    read: Result<Vec<u8>, ReadError>,
-) -> Report<F::Kept>
+fn report_of<F: Formatter>(alloc: Global, format: &F, read: Result<Vec<u8>, ReadError>) -> Report
     ensures due { IsDue (F.writes format.now) read (outcome_of result) }
     ensures made { IfOk read (λ all. (outcome_of result).status ≡ 0 →
         F.is_made_of format.now all.items (outcome_of result).output) }

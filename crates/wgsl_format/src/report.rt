@@ -15,10 +15,9 @@ use wgsl_error::{Error, ErrorKind};
 
 /// The outcome of an input: what is to be written, and the status that goes with it.
 #[derive(Drop)]
-pub enum Report<K> {
-    /// The text for the output, with status 0, and what it was made of: who ends the program need
-    /// not wait until that is freed.
-    Written(String, K),
+pub enum Report {
+    /// The text for the output, with status 0.
+    Written(String),
     /// The line of the fault that is named, for the errors: status 1.
     Refused(String),
     /// The source is no text: status 2.
@@ -30,7 +29,7 @@ pub enum Report<K> {
 }
 
 /// What is to be written where the input could not be read.
-pub(crate) fn unread<K>(error: ReadError) -> Report<K>
+pub(crate) fn unread(error: ReadError) -> Report
     ensures { IsDueUnread error (outcome_of result) }
 {
     match error {
@@ -40,7 +39,7 @@ pub(crate) fn unread<K>(error: ReadError) -> Report<K>
 }
 
 /// What is to be written where the source is refused, unless that is for a failed allocation.
-pub(crate) fn refused<K>(alloc: Global, error: Error) -> Result<Report<K>, AllocError>
+pub(crate) fn refused(alloc: Global, error: Error) -> Result<Report, AllocError>
     ensures told { IfOk result (λ report.
         outcome_of report ≡ complaint 1 (shown_fault (fault_view error) ++ codes "\n")) }
     ensures memory { IfOk result (λ _. ¬ (error.error ≡ kinds.OutOfMemory)) }
@@ -52,11 +51,7 @@ pub(crate) fn refused<K>(alloc: Global, error: Error) -> Result<Report<K>, Alloc
 }
 
 /// Sends the report to the writer that it is for, and returns its status, or `FAILED`.
-pub(crate) fn deliver<K, W: Write, E: Write>(
-    report: &Report<K>,
-    output: &mut W,
-    errors: &mut E,
-) -> u8
+pub(crate) fn deliver<W: Write, E: Write>(report: &Report, output: &mut W, errors: &mut E) -> u8
     ensures sent { (end : ProcessOutput) × GoesOut (outcome_of report.now) end
         × (result ≡ end.status)
         × Appends (W.contents output.old) (W.contents output.new) end.output
@@ -65,7 +60,7 @@ pub(crate) fn deliver<K, W: Write, E: Write>(
     ensures spared { 0 < (outcome_of report.now).status → output.new ≡ output.old }
 {
     match report {
-        Report::Written(text, _) => tell(output, text.as_str().as_bytes(), 0),
+        Report::Written(text) => tell(output, text.as_str().as_bytes(), 0),
         Report::Refused(line) => tell(errors, line.as_bytes(), 1),
         Report::NotUtf8 => tell(errors, b"input is not UTF-8\n", 2),
         Report::OutOfMemory => refuse_memory(errors),

@@ -17,18 +17,16 @@ pub struct Tidier {
 }
 
 impl Formatter for Tidier {
-    type Kept = ();
-
     ghost writes = { λ _ bytes due. Tidies bytes due };
 
     ghost is_made_of = { λ _ bytes text. IsTidied bytes text };
 
-    fn report(&self, alloc: Global, source: &[u8]) -> Result<Report<()>, AllocError> {
+    fn report(&self, alloc: Global, source: &[u8]) -> Result<Report, AllocError> {
         let Ok(text) = std::str::from_utf8(source) else {
             return Ok(Report::NotUtf8);
         };
         match tidy_within(alloc, text, Layout::standard(), self.depth) {
-            Ok(laid) => Ok(Report::Written(laid, ())),
+            Ok(laid) => Ok(Report::Written(laid)),
             Err(error) => refused(alloc, error),
         }
     }

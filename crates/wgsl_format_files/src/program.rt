@@ -25,7 +25,7 @@ use wgsl_command::{
     Command, CommandError, Mode, OptionName, Request, Source, UsageError, nearest, parse,
 };
 use wgsl_files::{Status, Store};
-use wgsl_format::{Tidier, run};
+use wgsl_format::{Tidier, run_with};
 use wgsl_program::say;
 
 /// Runs `wgsltidy` with these arguments, without its own name, over these files and streams.
@@ -45,7 +45,7 @@ pub fn start<S: Store, R: Read, W: Write, E: Write>(
         (W.contents output.new) (E.contents errors.new)) result }
 {
     if arguments.is_empty() {
-        return run(alloc, &Tidier { depth: DEPTH }, input, output, errors);
+        return run_with(alloc, &Tidier { depth: DEPTH }, input, output, errors);
     }
     match parse(alloc, arguments) {
         Ok(Command::Help) => say(output, HELP, Status::Success),
@@ -74,7 +74,7 @@ fn format_request<S: Store, R: Read, W: Write, E: Write>(
         (W.contents output.new) (E.contents errors.new)) result }
 {
     if is_filter(request) {
-        return run(alloc, &Tidier { depth: DEPTH }, input, output, errors);
+        return run_with(alloc, &Tidier { depth: DEPTH }, input, output, errors);
     }
     match inputs_of(alloc, store, request.sources.as_slice()) {
         Ok(inputs) => format_inputs(

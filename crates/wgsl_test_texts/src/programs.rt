@@ -2,10 +2,9 @@
 
 use std::alloc::Global;
 use std::io::{Read, Write};
-use wgsl_format::{Printer, Tidier, run, start_keeping};
+use wgsl_format::{Tidier, run, run_with, start};
 
-/// A call of one of the programs: `run`, or `start_keeping` of `wgslfmt` with a number of
-/// arguments.
+/// A call of one of the programs: a run, or `start` of `wgslfmt` with a number of arguments.
 #[derive(Clone, Copy)]
 pub enum Call {
     RunWgslfmt,
@@ -23,7 +22,7 @@ impl Call {
         }
     }
 
-    /// Returns the call `run` that does the same as `start_keeping`, if there is one.
+    /// Returns the call `run` that does the same as `start`, if there is one.
     pub fn run(self) -> Option<Call> {
         match self {
             Call::StartWgslfmt(0) => Some(Call::RunWgslfmt),
@@ -40,19 +39,9 @@ impl Call {
         errors: &mut E,
     ) -> u8 {
         match self {
-            Call::RunWgslfmt => run(alloc, &Printer { depth: 1_000 }, input, output, errors),
-            Call::RunWgsltidy => run(alloc, &Tidier { depth: 1_000 }, input, output, errors),
-            Call::StartWgslfmt(arguments) => {
-                start_keeping(
-                    alloc,
-                    &Printer { depth: 1_000 },
-                    arguments,
-                    input,
-                    output,
-                    errors,
-                )
-                .0
-            }
+            Call::RunWgslfmt => run(alloc, input, output, errors),
+            Call::RunWgsltidy => run_with(alloc, &Tidier { depth: 1_000 }, input, output, errors),
+            Call::StartWgslfmt(arguments) => start(alloc, arguments, input, output, errors),
         }
     }
 }

@@ -150,7 +150,7 @@ fn see_streams(case: Case<'_>, due: &Answer, facts: &mut Facts<'_>) -> Result<()
     };
     let case = Case { call, ..case };
     let is_alike = case.answer(Calls::whole(), Calls::whole()).is_alike(due);
-    facts.expect(is_alike, "`run` and `start_keeping` answer alike")?;
+    facts.expect(is_alike, "`run` and `start` return alike")?;
     case.check(due, facts)
 }
 

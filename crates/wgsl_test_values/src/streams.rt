@@ -4,7 +4,7 @@ use std::alloc::Global;
 use std::io;
 use std::io::{ErrorKind, Read, Write};
 use std::process::Abort;
-use wgsl_format::{Printer, refuse_memory, start_keeping};
+use wgsl_format::{refuse_memory, start};
 
 /// A reader that gives a byte a call, and then ends or fails.
 #[derive(Drop)]
@@ -99,25 +99,6 @@ impl Write for Narrow {
         }
         Ok(())
     }
-}
-
-/// The status of `wgslfmt` with a number of arguments.
-fn start<R: Read, W: Write, E: Write>(
-    alloc: Global,
-    arguments: usize,
-    input: &mut R,
-    output: &mut W,
-    errors: &mut E,
-) -> u8 {
-    start_keeping(
-        alloc,
-        &Printer { depth: 1_000 },
-        arguments,
-        input,
-        output,
-        errors,
-    )
-    .0
 }
 
 #[test]

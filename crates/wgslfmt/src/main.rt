@@ -2,9 +2,8 @@
 #![tactic(auto)]
 
 use std::io::ErrorKind;
-use std::mem::forget;
 use std::process::ExitCode;
-use wgsl_format::{Printer, refuse_memory, start_keeping};
+use wgsl_format::{Printer, refuse_memory, start_with};
 
 /// How many levels deep a module may nest: a level takes at most 2,750 bytes of a stack of 8 MB.
 const DEPTH: usize = 1_000;
@@ -18,15 +17,15 @@ fn main(rt: HostRuntime) -> ExitCode {
         // One that is not UTF-8 is an argument all the same.
         Err(_) => 1,
     };
-    let (status, report) = start_keeping(
+    ExitCode::from(start_with(
         rt.alloc(),
-        &Printer { depth: DEPTH },
+        &Printer {
+            depth: DEPTH,
+            ends: true,
+        },
         arguments,
         &mut rt.stdin(),
         &mut rt.stdout(),
         &mut rt.stderr(),
-    );
-    // What is left is freed by the end of the process, all at once.
-    forget(report);
-    ExitCode::from(status)
+    ))
 }

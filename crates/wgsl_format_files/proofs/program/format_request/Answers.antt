@@ -13,11 +13,11 @@ pub returns-then-is_filter : goal.returns-then-is_filter
 returns-then-is_filter g c =
     filter_request (request_view c.args.request.now) c.is_filter.result
     (g.S.Store.files c.args.store.now) (g.S.Store.files c.args.store.now)
-    (g.R.Read.remaining c.args.input.now) (g.R.Read.remaining c.run.new.input)
-    (g.W.Write.contents c.args.output.now) (g.W.Write.contents c.run.new.output)
+    (g.R.Read.remaining c.args.input.now) (g.R.Read.remaining c.run_with.new.input)
+    (g.W.Write.contents c.args.output.now) (g.W.Write.contents c.run_with.new.output)
     (g.E.Write.contents c.args.errors.now)
-    (g.E.Write.contents c.run.new.errors) c.run.result c.is_filter.ensures c.if-is_filter.true
-    (known_runs _ _ _ _ g.W.Write.contents c.args.output.now c.run.new.output _ _ c.run.result c.run.ensures)
+    (g.E.Write.contents c.run_with.new.errors) c.run_with.result c.is_filter.ensures c.if-is_filter.true
+    (known_runs _ _ _ _ g.W.Write.contents c.args.output.now c.run_with.new.output _ _ c.run_with.result c.run_with.ensures)
 
 pub returns-in-Ok : goal.returns-in-Ok
 returns-in-Ok g c =

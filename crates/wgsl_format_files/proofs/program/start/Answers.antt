@@ -14,7 +14,7 @@ returns-in-Err-OutOfMemory g c = memory_start _ _ _ _
 pub returns-then-is_empty : goal.returns-then-is_empty
 returns-then-is_empty g c =
     no_arguments c.args.arguments.now (g.S.Store.files c.args.store.now)
-    (g.R.Read.remaining c.args.input.now) (g.R.Read.remaining c.run.new.input)
-    (g.W.Write.contents c.args.output.now) (g.W.Write.contents c.run.new.output)
-    (g.E.Write.contents c.args.errors.now) (g.E.Write.contents c.run.new.errors) c.run.result (search rules)
-    (known_runs _ _ _ _ g.W.Write.contents c.args.output.now c.run.new.output _ _ c.run.result c.run.ensures)
+    (g.R.Read.remaining c.args.input.now) (g.R.Read.remaining c.run_with.new.input)
+    (g.W.Write.contents c.args.output.now) (g.W.Write.contents c.run_with.new.output)
+    (g.E.Write.contents c.args.errors.now) (g.E.Write.contents c.run_with.new.errors) c.run_with.result (search rules)
+    (known_runs _ _ _ _ g.W.Write.contents c.args.output.now c.run_with.new.output _ _ c.run_with.result c.run_with.ensures)

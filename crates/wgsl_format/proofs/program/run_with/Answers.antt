@@ -1,5 +1,5 @@
 use Rattle.wgsl_format.proofs.Runs.{run_holds}
-use Rattle.wgsl_format.proofs.program.run.Goals as goal
+use Rattle.wgsl_format.proofs.program.run_with.Goals as goal
 
 pub returns : goal.returns
 returns g c =
