@@ -91,7 +91,8 @@ enum wgsl_fault {
 /* The message of each WGSL_INVALID_TOKEN, which expects nothing. */
 #define WGSL_INVALID_TOKEN_MESSAGE "invalid token"
 
-/* The result of a call beside its status. A number that does not go with the status is 0. */
+/* The result of a call beside its status. A number that does not go with the status is 0; after
+ * WGSL_BAD_ARGUMENT the whole may be as it was before the call. */
 struct wgsl_answer {
     /* How many bytes or items there are to give, or the number that was asked for. */
     size_t size;
@@ -340,8 +341,9 @@ static inline uint32_t wgsl_tidy(const struct wgsl_layout *layout, const char *t
 
 /* Writes the minified text of a module into the buffer and, after it, its new names: JSON with a
  * member for each name that got one, such as {"color":"a","size":"b"}. The text is in front of the
- * byte `start` of the answer. It is the shortest text of the module with these names, without
- * comments and empty items; each use of a name refers to what it referred to before. `names` is
+ * byte `start` of the answer. No text with the tokens of the module's print, with these names,
+ * is shorter; comments and empty items are left out. Each use of a name refers to what it referred
+ * to before. `names` is
  * one of enum wgsl_names, and WGSL_UNKNOWN is the status for another number. The names of entry
  * points, overrides and members stay, and so do those on the lines of `keep`, which may be empty.
  * Most results fit where the buffer is as large as the text. */

@@ -55,9 +55,9 @@ pub struct Minified {
     pub names: Vec<(String, String)>,
 }
 
-/// Minifies a module: gives shorter names to what it declares, and returns the shortest text with
-/// these names, without comments and empty items. Each use of a name refers to what it referred to
-/// before.
+/// Minifies a module: gives shorter names to what it declares, and returns a text with these names
+/// than which none with the tokens of the module's print is shorter, without comments and empty
+/// items. Each use of a name refers to what it referred to before.
 ///
 /// # Errors
 ///
