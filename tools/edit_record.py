@@ -22,6 +22,8 @@ import wrong_bodies
 from edit_checks import CRATES, IS_REFUSED, Tried, Verdict
 
 RECORD = "must-fail/record.md"
+# the checksums of those that runs in this copy of the repository tried
+TRIED = crates.TOP / "build" / "tried.json"
 HEAD = """Wrong bodies that the prover refused, each with a checksum of what its check reads and the
 goal that failed, or the commit at which all were tried. `tools/edits --record` writes this file.
 
@@ -118,14 +120,29 @@ def drawn(names, day):
     return (sorted(names) * 2)[first : first + 2]
 
 
-def tried(crate, lines, libraries, which, is_recorded=False):
-    """Tries the wrong bodies of a crate that aren't on record, and more; prints what became of
-    them, and writes the record of those refused if it is to."""
+def refused_here():
+    """The checksums of the bodies that runs in this copy of the repository tried, and refused."""
+    return set(json.loads(TRIED.read_text())) if TRIED.is_file() else set()
+
+
+def note_refused(found):
+    """Notes which bodies of some crates were tried now, and refused."""
+    TRIED.parent.mkdir(exist_ok=True)
+    TRIED.write_text(json.dumps(sorted(refused_here().union(*(it.refused for it in found)))))
+
+
+def tried(crate, lines, libraries, which, is_recorded=False, here=frozenset()):
+    """Tries the wrong bodies of a crate that aren't on record, and more, but those whose checksum
+    was refused here; prints what became of them, and writes the record of those refused if it is
+    to."""
     it = Tried(crate, lines, libraries)
     sums, known = sums_of(it), {checksum: goal for _, checksum, goal in record_of(it.folder)}
-    for body in it.left() if which is not Which.ALL else []:
-        if sums[body.name] in known and not (body.is_marked and which is Which.MARKED):
-            it.verdicts[body.name] = Verdict.REFUSED, known[sums[body.name]]
+    for body in it.left():
+        checksum = sums[body.name]
+        is_asked = which is Which.ALL or body.is_marked and which is Which.MARKED
+        if checksum in here or checksum in known and not is_asked:
+            it.verdicts[body.name] = Verdict.REFUSED, known.get(checksum, "an earlier run")
+    left = [body.name for body in it.left()]
     if it.left():
         with tempfile.TemporaryDirectory(prefix="edits-") as room:
             (Path(room) / "kept").mkdir()
@@ -138,6 +155,7 @@ def tried(crate, lines, libraries, which, is_recorded=False):
     for body, (verdict, why) in it.told(Verdict.REFUSED):
         told.append(f"{crate}/{body.name}: {verdict.value}: {body.wrong} [{why}]")
     print("\n".join(told), flush=True)
+    it.refused = {sums[name] for name in left if it.verdicts[name][0] in IS_REFUSED}
     if is_recorded:
         found = [(body.name, *it.verdicts[body.name]) for body in it.bodies]
         refused = [(name, sums[name], why) for name, verdict, why in found if verdict in IS_REFUSED]
