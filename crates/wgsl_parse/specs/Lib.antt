@@ -123,12 +123,21 @@ pub use Rattle.wgsl_model_tidy.specs.LaidOut
 pub use Rattle.wgsl_model_tidy.specs.Formatted
 pub use Rattle.wgsl_model_tidy.specs.NonBlank
 pub use Rattle.wgsl_model_tidy.specs.Lines
+pub use Rattle.wgsl_model_tidy.specs.Brackets
+pub use Rattle.wgsl_model_tidy.specs.Shown
 pub use Rattle.wgsl_model_tidy.specs.Kept as KeptPieces
 pub use Rattle.wgsl_model_tidy.specs.Syntax
 pub use Rattle.wgsl_model_tidy.specs.Tidied
 pub use Rattle.wgsl_format_layout.specs.Layouts
+-- what the names of a module refer to
+pub use Rattle.wgsl_model_names.specs.Scopes
+pub use Rattle.wgsl_model_names.specs.Names
+pub use Rattle.wgsl_model_names.specs.Renamed as RenamedTrees
+pub use Rattle.wgsl_model_names.specs.RenamedTokens
+pub use Rattle.wgsl_model_names.specs.Renaming as Renamings
 -- modules minified
 pub use Rattle.wgsl_model_short.specs.Shortened
+pub use Rattle.wgsl_model_short.specs.Shortest
 pub use Rattle.wgsl_model_minify.specs.NewNames as Renaming
 pub use Rattle.wgsl_model_minify.specs.Renamed as RenamedNames
 pub use Rattle.wgsl_model_minify.specs.Chosen as ChosenNames
