@@ -345,7 +345,8 @@ static inline uint32_t wgsl_tidy(const struct wgsl_layout *layout, const char *t
  * is shorter; comments and empty items are left out. Each use of a name refers to what it referred
  * to before. `names` is
  * one of enum wgsl_names, and WGSL_UNKNOWN is the status for another number. The names of entry
- * points, overrides and members stay, and so do those on the lines of `keep`, which may be empty.
+ * points, overrides and members stay, and so do those on the lines of `keep`, which may be empty,
+ * and those that may be outside of the module where `@if` leaves their declaration out.
  * Most results fit where the buffer is as large as the text. */
 static inline uint32_t wgsl_minify(uint32_t names, const char *keep, size_t keep_size,
                                    const char *text, size_t size, char *buffer, size_t buffer_size,
