@@ -1,15 +1,20 @@
 -- Short ways to write the trees of rows, whose spans are left out.
-use Rattle.std.specs.Prelude.{ℕ, pos, List, [], ◌∷◌, Option, Some, None, codes}
+use Rattle.std.specs.Prelude.{ℕ, pos, List, [], ◌∷◌, map, Option, Some, None, codes}
 use Rattle.wgsl_model.specs.Trees.Operators.{BinaryOperator.addition}
 use Rattle.wgsl_model.specs.Trees.Spanned.{Spanned, spanned}
 use Rattle.wgsl_model.specs.Trees.WithoutSpans.{no_span}
 use Rattle.wgsl_model.specs.Trees.Expressions.{LiteralExpression, ExpressionNode, ExpressionNode.expression_node, Expression, FunctionCall.call, TypeExpression, TypeExpression.type_expression, TemplateArguments.no_template, TemplateArguments.template, expressions_of}
-use Rattle.wgsl_model.specs.Trees.Attributes.{Attribute, Attributes}
+use Rattle.wgsl_model.specs.Trees.Attributes.{OneArgument, NoArgument, Attribute, Attributes}
 use Rattle.wgsl_model.specs.Trees.Attributed.{with_attributes}
-use Rattle.wgsl_model.specs.Trees.Statements.{DeclarationKind, StatementNode, StatementNode.statement_node, UnattributedStatement, unattributed, CompoundStatement, compound_of, local_of, call_statement_of}
+use Rattle.wgsl_model.specs.Trees.Statements.{DeclarationKind, StatementNode, StatementNode.statement_node, Statement.statement, UnattributedStatement, unattributed, CompoundStatement, compound_of, local_of, call_statement_of}
 use Rattle.wgsl_model.specs.Trees.Units as unit
 use Rattle.wgsl_model.specs.Grammar.ExpressionParts.{variable}
 use Rattle.wgsl_model.specs.Grammar.UnitParts.{value_of}
+use Rattle.wgsl_model_names.specs.Scopes.{Referent}
+
+-- uses of which each refers to one thing
+abbrev pub each_alone : List Referent → List (List Referent)
+each_alone = map (λ referent. referent ∷ [])
 
 -- names
 abbrev pub a : List ℕ
@@ -80,16 +85,31 @@ abbrev pub attributes_of : List Attribute → Attributes
 attributes_of [] = []
 attributes_of (attribute ∷ more) = spanned attribute no_span ∷ attributes_of more
 
+-- `@if(word)`, `@elif(word)` and `@else`
+abbrev pub if_set : List ℕ → Attribute
+if_set word = Attribute.with_argument OneArgument.if_attribute (name word)
+
+abbrev pub elif_set : List ℕ → Attribute
+elif_set word = Attribute.with_argument OneArgument.elif_attribute (name word)
+
+abbrev pub else_set : Attribute
+else_set = Attribute.without_argument NoArgument.else_attribute
+
 abbrev pub statement_of : UnattributedStatement → StatementNode
-statement_of statement = statement_node (unattributed statement) no_span
+statement_of content = statement_node (unattributed content) no_span
 
 -- `word();`
 abbrev pub call_alone : List ℕ → StatementNode
 call_alone word = statement_of (call_statement_of (call (type_expression word no_template) (expressions_of [])))
 
+-- `attributes let word = value;`
+abbrev pub let_under : List Attribute → List ℕ → ExpressionNode → StatementNode
+let_under attributes word value = statement_node (statement (attributes_of attributes)
+    (local_of DeclarationKind.let_kind (word, None) (Some value))) no_span
+
 -- `let word = value;`
 abbrev pub let_is : List ℕ → ExpressionNode → StatementNode
-let_is word value = statement_of (local_of DeclarationKind.let_kind (word, None) (Some value))
+let_is = let_under []
 
 abbrev pub block : List StatementNode → CompoundStatement
 block = compound_of []
@@ -98,9 +118,14 @@ block = compound_of []
 abbrev pub declaration_of : Attributes → unit.UnattributedDeclaration → Spanned unit.GlobalDeclaration
 declaration_of attributes node = spanned (with_attributes attributes node) no_span
 
+-- `attributes const word = value;`
+abbrev pub const_under : List Attribute → List ℕ → ExpressionNode → Spanned unit.GlobalDeclaration
+const_under attributes word value =
+    declaration_of (attributes_of attributes) (value_of DeclarationKind.const_kind (word, None) (Some value))
+
 -- `const word = value;`
 abbrev pub const_is : List ℕ → ExpressionNode → Spanned unit.GlobalDeclaration
-const_is word value = declaration_of [] (value_of DeclarationKind.const_kind (word, None) (Some value))
+const_is = const_under []
 
 -- `word: ty`, a parameter
 abbrev pub parameter : List ℕ → List ℕ → unit.FormalParameter
@@ -121,6 +146,10 @@ function_with_result word parameters attributes result statements = unit.Unattri
 abbrev pub function_returning : List ℕ → List unit.FormalParameter → Option TypeExpression
     → List StatementNode → unit.UnattributedDeclaration
 function_returning word parameters = function_with_result word parameters []
+
+-- `attributes fn word() {}`
+abbrev pub empty_function : List Attribute → List ℕ → Spanned unit.GlobalDeclaration
+empty_function attributes word = declaration_of (attributes_of attributes) (function_returning word [] None [])
 
 -- `fn word(parameters) { statements }`
 abbrev pub function_of : List ℕ → List unit.FormalParameter → List StatementNode → Spanned unit.GlobalDeclaration

@@ -11,7 +11,7 @@ use Rattle.wgsl_model.specs.Trees.Statements.{DeclarationKind, UnattributedState
 use Rattle.wgsl_model.specs.Trees.Units.{TranslationUnit, UnattributedDirective, UnattributedDeclaration}
 use Rattle.wgsl_model.specs.Grammar.UnitParts.{value_of}
 use Rattle.wgsl_model_names.specs.Scopes.{Referent, declaration, outside}
-use Rattle.wgsl_laws_names.specs.RowParts.{a, b, c, d, f, g, n, s, t, x, y, at, name, number, call_of, type_named, templated, attributes_of, statement_of, let_is, declaration_of, const_is, parameter, function_with_result, function_returning, function_of, module_of}
+use Rattle.wgsl_laws_names.specs.RowParts.{a, b, c, d, f, g, n, s, t, x, y, at, name, number, call_of, type_named, templated, attributes_of, if_set, elif_set, statement_of, let_is, declaration_of, const_is, parameter, function_with_result, function_returning, empty_function, function_of, module_of}
 
 -- const max = 1; alias f32 = u32; fn f() { let a: f32 = max; let min = min; }
 abbrev pub built_in_names : TranslationUnit
@@ -50,12 +50,10 @@ attribute_arguments_referents = declaration 0 ∷ declaration 3 ∷ outside (cod
 -- @builtin(position) @interpolate(flat) const second = 1;
 abbrev pub constants_with_attributes : List ℕ → List ℕ → TranslationUnit
 constants_with_attributes first second = record {
-  global_directives = with_attributes
-      (attributes_of (Attribute.with_argument OneArgument.if_attribute (name a) ∷ []))
+  global_directives = with_attributes (attributes_of (if_set a ∷ []))
       (UnattributedDirective.enable (record { extensions = a ∷ [] })) ∷ [];
   global_declarations =
-      declaration_of (attributes_of (Attribute.with_argument OneArgument.if_attribute (name a)
-      ∷ Attribute.with_argument OneArgument.elif_attribute (name a)
+      declaration_of (attributes_of (if_set a ∷ elif_set a
       ∷ Attribute.custom (record { name = a; arguments = Some (name a ∷ []) })
       ∷ Attribute.diagnostic (record { severity = off; rule = a }) ∷ []))
       (value_of DeclarationKind.const_kind (first, None) (Some (number 1)))
@@ -65,11 +63,26 @@ constants_with_attributes first second = record {
 }
 
 -- the constants `a` and `position`
-abbrev pub no_uses_in_attributes : TranslationUnit
-no_uses_in_attributes = constants_with_attributes a (codes "position")
+abbrev pub unknown_in_attributes : TranslationUnit
+unknown_in_attributes = constants_with_attributes a (codes "position")
 
-abbrev pub no_uses_in_attributes_referents : List Referent
-no_uses_in_attributes_referents = []
+abbrev pub unknown_in_attributes_referents : List Referent
+unknown_in_attributes_referents = outside a ∷ outside a ∷ outside a ∷ outside a ∷ []
+
+-- const b = 1; @if(b) fn f() {}
+abbrev pub condition : TranslationUnit
+condition = module_of (const_is b (number 1) ∷ empty_function (if_set b ∷ []) f ∷ [])
+
+abbrev pub condition_referents : List Referent
+condition_referents = outside b ∷ []
+
+-- const b = 1; @subgroup_size(b) fn f() {}
+abbrev pub unknown_attribute : TranslationUnit
+unknown_attribute = module_of (const_is b (number 1) ∷ empty_function (
+    Attribute.custom (record { name = codes "subgroup_size"; arguments = Some (name b ∷ []) }) ∷ []) f ∷ [])
+
+abbrev pub unknown_attribute_referents : List Referent
+unknown_attribute_referents = outside b ∷ []
 
 -- const_assert a; const a = 1; fn f() { const_assert a; let a = 2; const_assert a; }
 abbrev pub assertions : TranslationUnit
@@ -166,6 +179,6 @@ renamed_members = module_of (
     ∷ let_is (codes "y1") (at (Expression.named_component (at (Expression.named_component
     (at (Expression.indexing (name (codes "x1")) (name (codes "t1")))) t)) (codes "xy"))) ∷ []) ∷ [])
 
--- no_uses_in_attributes, renamed so: the constants `a1` and `position1`
+-- unknown_in_attributes, renamed so: the constants `a1` and `position1`
 abbrev pub renamed_constants : TranslationUnit
 renamed_constants = constants_with_attributes (codes "a1") (codes "position1")

@@ -13,26 +13,28 @@ ghost use Rattle.wgsl_model.specs.Grammar.Written.{written};
 ghost use Rattle.wgsl_model.specs.Printed.Units.{print_unit};
 ghost use Rattle.wgsl_model.specs.Program.{IsUnit, ReadsBack};
 ghost use Rattle.wgsl_theory_reread.specs.CanonicalUnits.{canonical, without_place, HasTokens};
-ghost use Rattle.wgsl_model_names.specs.Scopes.{spelled};
+ghost use Rattle.wgsl_model_names.specs.Scopes.{spelled, unknown_names};
 ghost use Rattle.wgsl_model_names.specs.Names.{unit_names, unit_referents};
 ghost use Rattle.wgsl_model_names.specs.Renamed.{Renaming, renamed_unit};
 ghost use Rattle.wgsl_model_names.specs.RenamedTokens.{AreRenamedTokens, FixesUnderscore, GivesIdentifiers};
-ghost use Rattle.wgsl_model_names.specs.Renaming.{FixesOutside, FixesWords, IsRenamingOf, renamed_referent};
+ghost use Rattle.wgsl_model_names.specs.Renaming.{FixesAll, FixesOutside, FixesWords, IsRenamingOf, renamed_referents};
 
-/// Each use of a module refers to the declaration that it referred to, after a renaming that gives
-/// no two names of the module one name; what is outside is referred to by its new name, so it is
-/// the same where it keeps its name.
+/// Each use of a module may refer to the declarations that it might refer to before, after a
+/// renaming that gives no two names of the module one name; what is outside is referred to by its
+/// new name, so it is the same where it keeps its name.
 pub fn renaming_keeps_referents()
     ensures renamed { (unit : TranslationUnit) (f : Renaming) → IsRenamingOf unit f →
-        unit_referents (renamed_unit f unit) ≡ map (renamed_referent f) (unit_referents unit) }
+        unit_referents (renamed_unit f unit) ≡ renamed_referents f (unit_referents unit) }
     ensures same { (unit : TranslationUnit) (f : Renaming) → IsRenamingOf unit f →
         FixesOutside (unit_referents unit) f →
         unit_referents (renamed_unit f unit) ≡ unit_referents unit }
 {}
 
-/// The names of a renamed module are those of the module, renamed.
+/// The names of a renamed module are those of the module, renamed, if those stay of which it is not
+/// known what they refer to.
 pub fn renamed_names_are_renamed()
     ensures { (unit : TranslationUnit) (f : Renaming) → FixesWords f →
+        FixesAll (unknown_names (unit_names unit)) f →
         spelled (unit_names (renamed_unit f unit)) ≡ map f (spelled (unit_names unit)) }
 {}
 

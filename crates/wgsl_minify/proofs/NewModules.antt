@@ -9,6 +9,7 @@ use Rattle.wgsl_model_minify.specs.NewNames.{renaming_of}
 use Rattle.wgsl_model_minify.specs.Renamed.{Which}
 use Rattle.wgsl_model_minify.specs.Chosen.{AreNewNames}
 use Rattle.wgsl_theory_names.proofs.Kept.{unit_keeps}
+use Rattle.wgsl_theory_names.proofs.Unknown.{unknown_fixed}
 use Rattle.wgsl_theory_names.proofs.Lexed.Modules.{renamed_reads_back}
 use Rattle.wgsl_minify.specs.Hosts.{host_names}
 use Rattle.wgsl_minify.specs.Prints.{IsShortPrint}
@@ -28,7 +29,10 @@ minified source u which keep table text h are short = record {
   unit = u;
   is_unit = h;
   new_names = are;
-  same_referents = unit_keeps u (renaming_of table)
-      (record { injective = are.injective; fixes_words = are.fixes_words }) are.fixes_outside;
+  same_referents = unit_keeps u (renaming_of table) (record {
+    injective = are.injective;
+    fixes_words = are.fixes_words;
+    fixes_unknown = unknown_fixed (unit_names u) (renaming_of table) are.fixes_outside;
+  }) are.fixes_outside;
   short = short;
 }

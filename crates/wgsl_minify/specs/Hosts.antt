@@ -1,15 +1,17 @@
 -- The names by which a host program refers to declarations of a module.
-use Rattle.std.specs.Prelude.{ℕ, Bool, true, false, List, [], ◌∷◌, if◌then◌else◌, flat_map}
+use Rattle.std.specs.Prelude.{ℕ, Bool, true, false, List, [], ◌∷◌, if◌then◌else◌, flat_map, is_none}
 use Rattle.std.specs.List.{list_any}
-use Rattle.wgsl_model.specs.Trees.Attributes.{Attribute, Attributes, without_argument, vertex, fragment, compute}
+use Rattle.wgsl_model.specs.Trees.Attributes.{Attribute, Attributes, without_argument, vertex, fragment, compute, custom}
 use Rattle.wgsl_model.specs.Trees.Statements.{DeclarationKind, override_kind}
 use Rattle.wgsl_model.specs.Trees.Units.{TranslationUnit, UnattributedDeclaration, declaration, function}
 
--- an attribute for a shader stage makes a function an entry point (WGSL, "Entry Points")
+-- An attribute for a shader stage makes a function an entry point (WGSL, "Entry Points"). One
+-- without arguments that the language does not know may be for a stage of an extension.
 abbrev pub is_stage : Attribute → Bool
 is_stage (without_argument vertex) = true
 is_stage (without_argument fragment) = true
 is_stage (without_argument compute) = true
+is_stage (custom c) = is_none c.arguments
 is_stage a = false
 
 abbrev pub is_entry_point : Attributes → Bool

@@ -59,12 +59,13 @@ fn is_entry_point(attributes: &[AttributeNode]) -> bool
     attributes.iter().any(|node| is_stage(node.node()))
 }
 
-/// Whether an attribute is for a shader stage.
+/// Whether an attribute is for a shader stage, or may be for one of an extension.
 fn is_stage(attribute: &Attribute) -> bool
     ensures { result ≡ model.is_stage (attribute_view attribute.now) }
 {
-    matches!(
-        attribute,
-        Attribute::Vertex | Attribute::Fragment | Attribute::Compute
-    )
+    match attribute {
+        Attribute::Vertex | Attribute::Fragment | Attribute::Compute => true,
+        Attribute::Custom(custom) => custom.arguments.is_none(),
+        _ => false,
+    }
 }

@@ -6,7 +6,8 @@ use wgsl_minify_names::Which;
 #[derive(Clone, Copy, Debug)]
 pub struct MinifyOptions<'a> {
     pub names: Which,
-    /// Names that stay, beside those of entry points and overrides and those from outside of the
-    /// module.
+    /// Names that stay, beside those of entry points and overrides and those that may be from
+    /// outside of the module. A function with an attribute that the language does not know, without
+    /// arguments, is an entry point.
     pub keep: &'a [&'a str],
 }

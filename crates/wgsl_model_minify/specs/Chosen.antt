@@ -1,5 +1,5 @@
 -- When new names serve for a module.
-use Rattle.std.specs.Prelude.{◌≡◌, ◌↔◌, ℕ, ◌<◌, ◌≤◌, ⊤, ◌&&◌, ◌||◌, Bool, true, nat_le, List, [], ◌∷◌, Contains, count_by, length, bytes_eq}
+use Rattle.std.specs.Prelude.{◌≡◌, ◌↔◌, ◌⊎◌, ℕ, ◌<◌, ◌≤◌, ⊤, ◌&&◌, ◌||◌, Bool, true, not, nat_le, List, [], ◌∷◌, Contains, AllPairs, count_by, length, take_while, bytes_eq}
 use Rattle.std.specs.List.{IsDistinct}
 use Rattle.std.specs.Map.{keys_of, values_of}
 use Rattle.wgsl_model_names.specs.Scopes.{Names, spelled, referents_of}
@@ -11,6 +11,15 @@ use Rattle.wgsl_model_minify.specs.Renamed.{Which, GetsNewName, fixed_words}
 -- how often a name is used or declared
 abbrev pub count_of : Names → List ℕ → ℕ
 count_of names x = count_by (bytes_eq x) (spelled names)
+
+-- how many uses and declarations are before the first one of a name
+abbrev pub place_of : Names → List ℕ → ℕ
+place_of names x = length (take_while (λ y. not (bytes_eq x y)) (spelled names))
+
+-- a name occurs more often than another, or as often and before it
+abbrev pub ComesBefore : Names → List ℕ → List ℕ → Type 0
+ComesBefore names x y = (count_of names y < count_of names x)
+    ⊎ ((count_of names x ≡ count_of names y) × (place_of names x < place_of names y))
 
 -- a letter from `a` to `z` or from `A` to `Z`
 abbrev pub is_letter : ℕ → Bool
@@ -29,9 +38,10 @@ pub data IsInUse (keep : List (List ℕ)) (names : Names) (table : List (List �
   is_word : Contains fixed_words x → IsInUse keep names table x
   stays : Contains (spelled names) x → ¬ (Contains (keys_of table) x) → IsInUse keep names table x
 
--- names with their new names: what the laws of renaming ask of them, that each name that gets a new
--- one is there once and no other is, that a name that is there more often has a new name that is no
--- longer, and that each identifier of letters that is shorter than a new name is in use
+-- Names with their new names: what the laws of renaming ask of them; each name that gets a new one is
+-- there once, and no other is; those that occur more often are before others, and their new names
+-- are no longer; a new name is of letters, and is none to keep; and each identifier of letters that
+-- is shorter than a new name is in use.
 pub record AreNewNames (which : Which) (keep : List (List ℕ)) (names : Names)
     (table : List (List ℕ × List ℕ)) : Type 0 where
   pub injective : IsInjectiveOn (spelled names) (renaming_of table)
@@ -42,6 +52,9 @@ pub record AreNewNames (which : Which) (keep : List (List ℕ)) (names : Names)
   pub keeps : (x : List ℕ) → Contains keep x → renaming_of table x ≡ x
   pub renames : (x : List ℕ) → Contains (keys_of table) x ↔ GetsNewName which keep names x
   pub once : IsDistinct bytes_eq (keys_of table)
+  pub ordered : AllPairs (λ p q. ComesBefore names p.0 q.0) table
+  pub letters : (p : List ℕ × List ℕ) → Contains table p → AreLetters p.1
+  pub none_kept : (p : List ℕ × List ℕ) → Contains table p → ¬ (Contains keep p.1)
   pub shortest_first : (p q : List ℕ × List ℕ) → Contains table p → Contains table q
       → count_of names q.0 < count_of names p.0 → length p.1 ≤ length q.1
   pub none_free : (p : List ℕ × List ℕ) (x : List ℕ) → Contains table p → AreLetters x

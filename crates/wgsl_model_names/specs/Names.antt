@@ -1,14 +1,14 @@
 -- The uses, declarations and scopes of each node. No use is a name after `.`, the name of a member
 -- or of an attribute, or a word that has its meaning from where it is, as in `@builtin`.
-use Rattle.std.specs.Prelude.{List, [], ◌∷◌, Option, Some, None}
+use Rattle.std.specs.Prelude.{ℕ, List, [], ◌∷◌, Option, Some, None}
 use Rattle.wgsl_model.specs.Trees.Spanned.{Spanned}
 use Rattle.wgsl_model.specs.Trees.NamedValues.{AddressSpace, AccessMode, address_space_text, access_mode_text}
 use Rattle.wgsl_model.specs.Trees.Expressions.{ExpressionNode, expression_node, Expression, literal, parenthesized, named_component, indexing, unary, binary, function_call, type_or_identifier, FunctionCall, call, TypeExpression, type_expression, ExpressionNodes, no_expressions, expression_before, TemplateArguments, no_template, template}
-use Rattle.wgsl_model.specs.Trees.Attributes.{Attribute, with_argument, if_attribute, elif_attribute, workgroup_size, type_constraint, Attributes}
+use Rattle.wgsl_model.specs.Trees.Attributes.{Attribute, with_argument, without_argument, if_attribute, elif_attribute, else_attribute, workgroup_size, type_constraint, custom, Attributes}
 use Rattle.wgsl_model.specs.Trees.Attributed.{Attributed}
 use Rattle.wgsl_model.specs.Trees.Statements as tree
 use Rattle.wgsl_model.specs.Trees.Units as unit
-use Rattle.wgsl_model_names.specs.Scopes.{Names, nothing, used, declared, ◌then◌, scope, Referent, referents_of}
+use Rattle.wgsl_model_names.specs.Scopes.{Names, nothing, used, unknown, declared, alternative, ◌then◌, scope, Branch, under_if, under_elif, under_else, under_several, Referent, referents_of}
 
 -- what there may be, and what is in a list
 abbrev pub maybe : {A : Type 0} → (A → Names) → Option A → Names
@@ -20,43 +20,54 @@ each names [] = nothing
 each names (x ∷ xs) = names x then each names xs
 
 -- ---- expressions and types
+-- the names of an expression, each as one kind: a use, or not known
 abbrev mutual
-  pub expression_names : Expression → Names
-  expression_names (literal l) = nothing
-  expression_names (parenthesized e) = node_names e
-  expression_names (named_component base component) = node_names base
-  expression_names (indexing base index) = node_names base then node_names index
-  expression_names (unary operator operand) = node_names operand
-  expression_names (binary operator left right) = node_names left then node_names right
-  expression_names (function_call c) = call_names c
-  expression_names (type_or_identifier t) = type_names t
+  pub names_in_expression : (List ℕ → Names) → Expression → Names
+  names_in_expression kind (literal l) = nothing
+  names_in_expression kind (parenthesized e) = names_in kind e
+  names_in_expression kind (named_component base component) = names_in kind base
+  names_in_expression kind (indexing base index) = names_in kind base then names_in kind index
+  names_in_expression kind (unary operator operand) = names_in kind operand
+  names_in_expression kind (binary operator left right) = names_in kind left then names_in kind right
+  names_in_expression kind (function_call c) = names_in_call kind c
+  names_in_expression kind (type_or_identifier t) = names_in_type kind t
 
-  pub node_names : ExpressionNode → Names
-  node_names (expression_node e span) = expression_names e
+  pub names_in : (List ℕ → Names) → ExpressionNode → Names
+  names_in kind (expression_node e span) = names_in_expression kind e
 
-  pub expressions_names : ExpressionNodes → Names
-  expressions_names no_expressions = nothing
-  expressions_names (expression_before e es) = node_names e then expressions_names es
+  pub names_in_all : (List ℕ → Names) → ExpressionNodes → Names
+  names_in_all kind no_expressions = nothing
+  names_in_all kind (expression_before e es) = names_in kind e then names_in_all kind es
 
-  pub call_names : FunctionCall → Names
-  call_names (call ty arguments) = type_names ty then expressions_names arguments
+  pub names_in_call : (List ℕ → Names) → FunctionCall → Names
+  names_in_call kind (call ty arguments) = names_in_type kind ty then names_in_all kind arguments
 
-  pub type_names : TypeExpression → Names
-  type_names (type_expression name arguments) = used name then template_names arguments
+  pub names_in_type : (List ℕ → Names) → TypeExpression → Names
+  names_in_type kind (type_expression name arguments) = kind name then names_in_template kind arguments
 
-  pub template_names : TemplateArguments → Names
-  template_names no_template = nothing
-  template_names (template arguments) = expressions_names arguments
+  pub names_in_template : (List ℕ → Names) → TemplateArguments → Names
+  names_in_template kind no_template = nothing
+  names_in_template kind (template arguments) = names_in_all kind arguments
+
+abbrev pub node_names : ExpressionNode → Names
+node_names = names_in used
+
+abbrev pub call_names : FunctionCall → Names
+call_names = names_in_call used
+
+abbrev pub type_names : TypeExpression → Names
+type_names = names_in_type used
 
 -- ---- attributes
--- The arguments of `@if` and `@elif` are no names of the module, nor are those of an attribute that
--- the language does not know.
+-- What the names in the arguments of `@if` and `@elif` refer to is not known, nor of those in the
+-- arguments of an attribute that the language does not know.
 abbrev pub attribute_names : Attribute → Names
-attribute_names (with_argument if_attribute e) = nothing
-attribute_names (with_argument elif_attribute e) = nothing
+attribute_names (with_argument if_attribute e) = names_in unknown e
+attribute_names (with_argument elif_attribute e) = names_in unknown e
 attribute_names (with_argument name e) = node_names e
 attribute_names (workgroup_size w) = node_names w.x then maybe node_names w.y then maybe node_names w.z
 attribute_names (type_constraint t) = used t.ident then each type_names t.variants
+attribute_names (custom c) = maybe (each (names_in unknown)) c.arguments
 attribute_names a = nothing
 
 abbrev pub spanned_attribute_names : Spanned Attribute → Names
@@ -64,6 +75,34 @@ spanned_attribute_names a = attribute_names a.node
 
 abbrev pub attributes_names : Attributes → Names
 attributes_names = each spanned_attribute_names
+
+-- the condition that an attribute states
+abbrev pub branch_of : Attribute → Option Branch
+branch_of (with_argument if_attribute e) = Some under_if
+branch_of (with_argument elif_attribute e) = Some under_elif
+branch_of (without_argument else_attribute) = Some under_else
+branch_of a = None
+
+-- one condition and others
+abbrev pub both_branches : Option Branch → Option Branch → Option Branch
+both_branches None others = others
+both_branches (Some branch) None = Some branch
+both_branches (Some branch) (Some others) = Some under_several
+
+-- the condition under which a node with these attributes is there
+abbrev pub branch_under : Attributes → Option Branch
+branch_under [] = None
+branch_under (a ∷ more) = both_branches (branch_of a.node) (branch_under more)
+
+-- what is declared under a condition, or always
+abbrev pub declared_in : Option Branch → Option (List ℕ) → Names
+declared_in None None = nothing
+declared_in None (Some x) = declared x
+declared_in (Some branch) name = alternative branch name
+
+-- what a node with these attributes declares
+abbrev pub declared_under : Attributes → Option (List ℕ) → Names
+declared_under attributes name = declared_in (branch_under attributes) name
 
 -- ---- statements
 -- the address space and the access mode of a `var` are uses
@@ -88,14 +127,20 @@ selector_names (tree.expression_selector e) = node_names e
 abbrev pub break_if_names : Attributed tree.BreakIfStatement → Names
 break_if_names b = attributes_names b.attributes then node_names b.node.expression
 
+-- the name that a statement declares
+abbrev pub name_declared : tree.UnattributedStatement → Option (List ℕ)
+name_declared (tree.declaration d) = Some d.ident
+name_declared s = None
+
 abbrev mutual
+  -- a declaration is in scope after its end
   pub statement_names : tree.Statement → Names
-  statement_names (tree.statement attributes s) = attributes_names attributes then unattributed_names s
+  statement_names (tree.statement attributes s) =
+      attributes_names attributes then unattributed_names s then declared_under attributes (name_declared s)
 
   pub statement_node_names : tree.StatementNode → Names
   statement_node_names (tree.statement_node s span) = statement_names s
 
-  -- a declaration is in scope after its end
   pub unattributed_names : tree.UnattributedStatement → Names
   unattributed_names (tree.compound ss) = scope (statements_names ss)
   unattributed_names (tree.assignment a) = node_names a.lhs then node_names a.rhs
@@ -109,7 +154,7 @@ abbrev mutual
   unattributed_names (tree.return_statement s) = maybe node_names s.expression
   unattributed_names (tree.function_call_statement s) = call_names s.call
   unattributed_names (tree.const_assert s) = node_names s.expression
-  unattributed_names (tree.declaration d) = value_names d then declared d.ident
+  unattributed_names (tree.declaration d) = value_names d
   unattributed_names s = nothing
 
   pub compound_names : tree.CompoundStatement → Names
@@ -188,7 +233,7 @@ parameter_names p = attributes_names p.attributes then type_names p.ty
 
 -- parameters are in scope in the whole body
 abbrev pub parameter_declared : unit.FormalParameter → Names
-parameter_declared p = declared p.ident
+parameter_declared p = declared_under p.attributes (Some p.ident)
 
 abbrev pub function_names : unit.Function → Names
 function_names f = each parameter_names f.parameters
@@ -208,16 +253,16 @@ abbrev pub global_names : Spanned unit.GlobalDeclaration → Names
 global_names d = attributes_names d.node.attributes then content_names d.node.node
 
 -- the name that it declares
-abbrev pub unattributed_declared : unit.UnattributedDeclaration → Names
-unattributed_declared unit.void = nothing
-unattributed_declared (unit.declaration d) = declared d.ident
-unattributed_declared (unit.type_alias a) = declared a.ident
-unattributed_declared (unit.structure s) = declared s.ident
-unattributed_declared (unit.function f) = declared f.ident
-unattributed_declared (unit.const_assert c) = nothing
+abbrev pub global_name : unit.UnattributedDeclaration → Option (List ℕ)
+global_name unit.void = None
+global_name (unit.declaration d) = Some d.ident
+global_name (unit.type_alias a) = Some a.ident
+global_name (unit.structure s) = Some s.ident
+global_name (unit.function f) = Some f.ident
+global_name (unit.const_assert c) = None
 
 abbrev pub global_declared : Spanned unit.GlobalDeclaration → Names
-global_declared d = unattributed_declared d.node.node
+global_declared d = declared_under d.node.attributes (global_name d.node.node)
 
 abbrev pub directive_names : unit.GlobalDirective → Names
 directive_names d = attributes_names d.attributes
@@ -227,6 +272,6 @@ abbrev pub unit_names : unit.TranslationUnit → Names
 unit_names u = each global_declared u.global_declarations
     then each directive_names u.global_directives then each global_names u.global_declarations
 
--- what each use of a module refers to
-abbrev pub unit_referents : unit.TranslationUnit → List Referent
+-- what each use of a module may refer to
+abbrev pub unit_referents : unit.TranslationUnit → List (List Referent)
 unit_referents u = referents_of (unit_names u)

@@ -1,13 +1,13 @@
 -- The names of each renamed node are those of the node, renamed.
-use Rattle.std.proofs.Common.{◌≡◌, [], ◌∷◌, map, Option, Some, None, refl, sym, ap}
+use Rattle.std.proofs.Common.{◌≡◌, ℕ, List, [], ◌∷◌, map, Option, Some, None, refl, sym, ap, ◌∙◌}
 use Rattle.std.specs.Option.{option_map}
 use Rattle.wgsl_model.specs.Trees.NamedValues.{AccessMode}
 use Rattle.wgsl_model.specs.Trees.Expressions.{expression_node, literal, parenthesized, named_component, indexing, unary, binary, function_call, type_or_identifier, call, type_expression, no_expressions, expression_before, no_template, template}
 use Rattle.wgsl_model.specs.Trees.Attributes as attribute
 use Rattle.wgsl_model.specs.Trees.Statements as tree
 use Rattle.wgsl_model.specs.Trees.Units as unit
-use Rattle.wgsl_model_names.specs.Scopes.{Names, used, declared, ◌then◌, scope}
-use Rattle.wgsl_model_names.specs.Names.{maybe, each, expression_names, node_names, expressions_names, call_names, type_names, template_names, attribute_names, attributes_names, kind_names, value_names, selector_names, break_if_names, statement_names, statement_node_names, unattributed_names, compound_names, if_names, if_clause_names, else_if_clause_names, else_clause_names, switch_names, switch_clause_names, loop_names, continuing_names, for_names, while_names, statements_names, part_names, else_ifs_names, else_names, clauses_names, maybe_continuing_names, member_names, parameter_names, function_names, spanned_attribute_names, mode_names, parameter_declared, content_names, global_names, unattributed_declared, global_declared, directive_names, unit_names}
+use Rattle.wgsl_model_names.specs.Scopes.{Names, used, unknown, ◌then◌, scope, Branch}
+use Rattle.wgsl_model_names.specs.Names.{maybe, each, names_in_expression, names_in, names_in_all, names_in_call, names_in_type, names_in_template, node_names, call_names, type_names, attribute_names, attributes_names, branch_of, both_branches, branch_under, declared_in, declared_under, kind_names, value_names, selector_names, break_if_names, name_declared, statement_names, statement_node_names, unattributed_names, compound_names, if_names, if_clause_names, else_if_clause_names, else_clause_names, switch_names, switch_clause_names, loop_names, continuing_names, for_names, while_names, statements_names, part_names, else_ifs_names, else_names, clauses_names, maybe_continuing_names, member_names, parameter_names, function_names, spanned_attribute_names, mode_names, parameter_declared, content_names, global_names, global_name, global_declared, directive_names, unit_names}
 use Rattle.wgsl_model_names.specs.Renamed.{Renaming, renamed_expression, renamed_node, renamed_expressions, renamed_call, renamed_type, renamed_template, renamed_attribute, renamed_attributes, renamed_attributed, renamed_declaration, renamed_selector, renamed_break_if, renaming, renamed_member, renamed_parameter, renamed_function, renamed_unattributed, renamed_global, renamed_spanned, renamed_directive, renamed_unit}
 use Rattle.wgsl_model_names.specs.Renaming.{FixesWords}
 use Rattle.wgsl_theory_names.proofs.RenamedScopes.{renamed_names}
@@ -29,7 +29,7 @@ module _ (f : Renaming) where
 
   -- ---- expressions and types
   mutual
-    expression_renamed : Commutes expression_names (renamed_expression f)
+    expression_renamed : Commutes (names_in_expression used) (renamed_expression f)
     expression_renamed (literal l) = refl
     expression_renamed (parenthesized e) = node_renamed e
     expression_renamed (named_component base component) = node_renamed base
@@ -42,7 +42,7 @@ module _ (f : Renaming) where
     node_renamed : Commutes node_names (renamed_node f)
     node_renamed (expression_node e span) = expression_renamed e
 
-    expressions_renamed : Commutes expressions_names (renamed_expressions f)
+    expressions_renamed : Commutes (names_in_all used) (renamed_expressions f)
     expressions_renamed no_expressions = refl
     expressions_renamed (expression_before e es) = λ i. node_renamed e i then expressions_renamed es i
 
@@ -52,7 +52,7 @@ module _ (f : Renaming) where
     type_renamed : Commutes type_names (renamed_type f)
     type_renamed (type_expression name arguments) = λ i. used (f name) then template_renamed arguments i
 
-    template_renamed : Commutes template_names (renamed_template f)
+    template_renamed : Commutes (names_in_template used) (renamed_template f)
     template_renamed no_template = refl
     template_renamed (template arguments) = expressions_renamed arguments
 
@@ -61,6 +61,47 @@ module _ (f : Renaming) where
 
   maybe_type_renamed : Commutes (maybe type_names) (option_map (renamed_type f))
   maybe_type_renamed = maybe_renamed type_names (renamed_type f) type_renamed
+
+  -- ---- names of which it is not known what they refer to
+  -- the names of a node are the same, renamed
+  abbrev Stays : {A : Type 0} → (A → Names) → Type 0
+  Stays {A} names = Commutes names (λ x. x)
+
+  maybe_stays : {A : Type 0} (names : A → Names) → Stays names → Stays (maybe names)
+  maybe_stays names stays None = refl
+  maybe_stays names stays (Some x) = stays x
+
+  each_stays : {A : Type 0} (names : A → Names) → Stays names → Stays (each names)
+  each_stays names stays [] = refl
+  each_stays names stays (x ∷ xs) = λ i. stays x i then each_stays names stays xs i
+
+  mutual
+    expression_stays : Stays (names_in_expression unknown)
+    expression_stays (literal l) = refl
+    expression_stays (parenthesized e) = node_stays e
+    expression_stays (named_component base component) = node_stays base
+    expression_stays (indexing base index) = λ i. node_stays base i then node_stays index i
+    expression_stays (unary operator operand) = node_stays operand
+    expression_stays (binary operator left right) = λ i. node_stays left i then node_stays right i
+    expression_stays (function_call c) = call_stays c
+    expression_stays (type_or_identifier t) = type_stays t
+
+    node_stays : Stays (names_in unknown)
+    node_stays (expression_node e span) = expression_stays e
+
+    expressions_stay : Stays (names_in_all unknown)
+    expressions_stay no_expressions = refl
+    expressions_stay (expression_before e es) = λ i. node_stays e i then expressions_stay es i
+
+    call_stays : Stays (names_in_call unknown)
+    call_stays (call ty arguments) = λ i. type_stays ty i then expressions_stay arguments i
+
+    type_stays : Stays (names_in_type unknown)
+    type_stays (type_expression name arguments) = λ i. unknown name then template_stays arguments i
+
+    template_stays : Stays (names_in_template unknown)
+    template_stays no_template = refl
+    template_stays (template arguments) = expressions_stay arguments
 
   -- ---- attributes
   attribute_renamed : Commutes attribute_names (renamed_attribute f)
@@ -71,8 +112,8 @@ module _ (f : Renaming) where
   attribute_renamed (attribute.with_argument attribute.id e) = node_renamed e
   attribute_renamed (attribute.with_argument attribute.location e) = node_renamed e
   attribute_renamed (attribute.with_argument attribute.size e) = node_renamed e
-  attribute_renamed (attribute.with_argument attribute.if_attribute e) = refl
-  attribute_renamed (attribute.with_argument attribute.elif_attribute e) = refl
+  attribute_renamed (attribute.with_argument attribute.if_attribute e) = node_stays e
+  attribute_renamed (attribute.with_argument attribute.elif_attribute e) = node_stays e
   attribute_renamed (attribute.without_argument name) = refl
   attribute_renamed (attribute.builtin value) = refl
   attribute_renamed (attribute.diagnostic d) = refl
@@ -80,11 +121,34 @@ module _ (f : Renaming) where
   attribute_renamed (attribute.workgroup_size w) = λ i. node_renamed w.x i
       then maybe_node_renamed w.y i then maybe_node_renamed w.z i
   attribute_renamed (attribute.type_constraint t) = λ i. used (f t.ident) then each_renamed type_names (renamed_type f) type_renamed t.variants i
-  attribute_renamed (attribute.custom c) = refl
+  attribute_renamed (attribute.custom c) =
+      maybe_stays (each (names_in unknown)) (each_stays (names_in unknown) node_stays) c.arguments
 
   attributes_renamed : Commutes attributes_names (renamed_attributes f)
   attributes_renamed =
       each_renamed spanned_attribute_names (renamed_spanned (renamed_attribute f)) (λ a. attribute_renamed a.node)
+
+  -- ---- declarations
+  attribute_branch : (a : attribute.Attribute) → branch_of (renamed_attribute f a) ≡ branch_of a
+  attribute_branch (attribute.with_argument attribute.if_attribute e) = refl
+  attribute_branch a = refl
+
+  attributes_branch : (attributes : attribute.Attributes)
+      → branch_under (renamed_attributes f attributes) ≡ branch_under attributes
+  attributes_branch [] = refl
+  attributes_branch (a ∷ attributes) =
+      λ i. both_branches (attribute_branch a.node i) (attributes_branch attributes i)
+
+  declared_in_renamed : (branch : Option Branch) → Commutes (declared_in branch) (option_map f)
+  declared_in_renamed None None = refl
+  declared_in_renamed None (Some x) = refl
+  declared_in_renamed (Some branch) name = refl
+
+  declared_renamed : (attributes : attribute.Attributes) (name : Option (List ℕ))
+      → declared_under (renamed_attributes f attributes) (option_map f name)
+      ≡ renamed_names f (declared_under attributes name)
+  declared_renamed attributes name = (λ i. declared_in (attributes_branch attributes i) (option_map f name))
+      ∙ declared_in_renamed (branch_under attributes) name
 
   -- ---- statements
   selector_renamed : Commutes selector_names (renamed_selector f)
@@ -93,6 +157,11 @@ module _ (f : Renaming) where
 
   break_if_renamed : Commutes break_if_names (renamed_attributed f (renamed_break_if f))
   break_if_renamed b = λ i. attributes_renamed b.attributes i then node_renamed b.node.expression i
+
+  name_renamed : (s : tree.UnattributedStatement)
+      → name_declared (tree.changed_unattributed (renaming f) s) ≡ option_map f (name_declared s)
+  name_renamed (tree.declaration d) = refl
+  name_renamed s = refl
 
   module _ (words : FixesWords f) where
     mode_renamed : (mode : Option AccessMode) → maybe mode_names mode ≡ renamed_names f (maybe mode_names mode)
@@ -113,8 +182,10 @@ module _ (f : Renaming) where
 
     mutual
       statement_renamed : Commutes statement_names (tree.changed_statement (renaming f))
-      statement_renamed (tree.statement attributes s) =
-          λ i. attributes_renamed attributes i then unattributed_renamed s i
+      statement_renamed (tree.statement attributes s) = λ i. attributes_renamed attributes i
+          then unattributed_renamed s i
+          then ((λ j. declared_under (renamed_attributes f attributes) (name_renamed s j))
+          ∙ declared_renamed attributes (name_declared s)) i
 
       statement_node_renamed : Commutes statement_node_names (tree.changed_node (renaming f))
       statement_node_renamed (tree.statement_node s span) = statement_renamed s
@@ -132,7 +203,7 @@ module _ (f : Renaming) where
       unattributed_renamed (tree.return_statement s) = maybe_node_renamed s.expression
       unattributed_renamed (tree.function_call_statement s) = call_renamed s.call
       unattributed_renamed (tree.const_assert s) = node_renamed s.expression
-      unattributed_renamed (tree.declaration d) = λ i. value_renamed d i then declared (f d.ident)
+      unattributed_renamed (tree.declaration d) = value_renamed d
       unattributed_renamed tree.void = refl
       unattributed_renamed tree.break_statement = refl
       unattributed_renamed tree.continue_statement = refl
@@ -221,7 +292,8 @@ module _ (f : Renaming) where
     function_renamed x = λ i. each_renamed parameter_names (renamed_parameter f) parameter_renamed x.parameters i
         then attributes_renamed x.return_attributes i
         then maybe_type_renamed x.return_type i
-        then scope (each_renamed parameter_declared (renamed_parameter f) (λ p. refl) x.parameters i
+        then scope (each_renamed parameter_declared (renamed_parameter f)
+        (λ p. declared_renamed p.attributes (Some p.ident)) x.parameters i
         then compound_renamed x.body i)
 
     content_renamed : Commutes content_names (renamed_unattributed f)
@@ -236,18 +308,20 @@ module _ (f : Renaming) where
     global_renamed : Commutes global_names (renamed_spanned (renamed_global f))
     global_renamed d = λ i. attributes_renamed d.node.attributes i then content_renamed d.node.node i
 
-    declared_renamed : Commutes unattributed_declared (renamed_unattributed f)
-    declared_renamed unit.void = refl
-    declared_renamed (unit.declaration d) = refl
-    declared_renamed (unit.type_alias a) = refl
-    declared_renamed (unit.structure s) = refl
-    declared_renamed (unit.function x) = refl
-    declared_renamed (unit.const_assert c) = refl
+    global_name_renamed : (d : unit.UnattributedDeclaration)
+        → global_name (renamed_unattributed f d) ≡ option_map f (global_name d)
+    global_name_renamed unit.void = refl
+    global_name_renamed d = refl
+
+    global_declared_renamed : Commutes global_declared (renamed_spanned (renamed_global f))
+    global_declared_renamed d =
+        (λ i. declared_under (renamed_attributes f d.node.attributes) (global_name_renamed d.node.node i))
+        ∙ declared_renamed d.node.attributes (global_name d.node.node)
 
     pub unit_renamed : Commutes unit_names (renamed_unit f)
     unit_renamed u = λ i.
         each_renamed global_declared (renamed_spanned (renamed_global f))
-        (λ d. declared_renamed d.node.node) u.global_declarations i
+        global_declared_renamed u.global_declarations i
         then each_renamed directive_names (renamed_directive f)
         (λ d. attributes_renamed d.attributes) u.global_directives i
         then each_renamed global_names (renamed_spanned (renamed_global f)) global_renamed u.global_declarations i

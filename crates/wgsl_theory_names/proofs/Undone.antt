@@ -1,5 +1,5 @@
 -- A renaming that is undone gives each node back, so it changes names alone.
-use Rattle.std.proofs.Common.{◌≡◌, ℕ, List, [], ◌∷◌, map, Some, None, refl}
+use Rattle.std.proofs.Common.{◌≡◌, ℕ, List, [], ◌∷◌, map, Option, Some, None, IfSome, refl}
 use Rattle.std.specs.List.{Contains}
 use Rattle.std.specs.Option.{option_map}
 use Rattle.wgsl_model.specs.Trees.Spanned.{Spanned}
@@ -7,16 +7,22 @@ use Rattle.wgsl_model.specs.Trees.Expressions.{expression_node, literal, parenth
 use Rattle.wgsl_model.specs.Trees.Attributes as attribute
 use Rattle.wgsl_model.specs.Trees.Statements as tree
 use Rattle.wgsl_model.specs.Trees.Units as unit
-use Rattle.wgsl_model_names.specs.Scopes.{Names, spelled}
-use Rattle.wgsl_model_names.specs.Names.{maybe, each, expression_names, node_names, expressions_names, call_names, type_names, template_names, attribute_names, spanned_attribute_names, attributes_names, value_names, selector_names, break_if_names, statement_names, statement_node_names, unattributed_names, compound_names, if_names, if_clause_names, else_if_clause_names, else_clause_names, switch_names, switch_clause_names, loop_names, continuing_names, for_names, while_names, statements_names, part_names, else_ifs_names, else_names, clauses_names, maybe_continuing_names, member_names, parameter_names, parameter_declared, function_names, content_names, unattributed_declared, global_names, global_declared, directive_names, unit_names}
+use Rattle.wgsl_model_names.specs.Scopes.{Names, used, Branch, spelled}
+use Rattle.wgsl_model_names.specs.Names.{maybe, each, names_in_expression, names_in_all, names_in_template, node_names, call_names, type_names, attribute_names, spanned_attribute_names, attributes_names, branch_under, declared_in, value_names, selector_names, break_if_names, name_declared, statement_names, statement_node_names, unattributed_names, compound_names, if_names, if_clause_names, else_if_clause_names, else_clause_names, switch_names, switch_clause_names, loop_names, continuing_names, for_names, while_names, statements_names, part_names, else_ifs_names, else_names, clauses_names, maybe_continuing_names, member_names, parameter_names, parameter_declared, function_names, content_names, global_name, global_names, global_declared, directive_names, unit_names}
 use Rattle.wgsl_model_names.specs.Renamed.{Renaming, renamed_expression, renamed_node, renamed_expressions, renamed_call, renamed_type, renamed_template, renamed_attribute, renamed_spanned, renamed_attributes, renamed_attributed, renamed_declaration, renamed_break_if, renamed_selector, renaming, renamed_member, renamed_parameter, renamed_function, renamed_unattributed, renamed_global, renamed_directive, renamed_unit}
 use Rattle.wgsl_theory_names.proofs.RenamedScopes.{EachName}
 use Rattle.wgsl_theory_names.proofs.Kept.{each_spelled}
 
 module _ (f g : Renaming) where
-  -- g undoes f at each name
+  -- g undoes f at a name, at one that there may be, and at each name
+  abbrev Back : List ℕ → Type 0
+  Back x = g (f x) ≡ x
+
+  abbrev MaybeBack : Option (List ℕ) → Type 0
+  MaybeBack name = IfSome name Back
+
   abbrev IsUndone : Names → Type 0
-  IsUndone names = EachName (λ x. g (f x) ≡ x) names
+  IsUndone names = EachName Back names
 
   -- a node is as it was, where g undoes f
   abbrev Undone : {A : Type 0} → (A → Names) → (Renaming → A → A) → Type 0
@@ -34,7 +40,7 @@ module _ (f g : Renaming) where
 
   -- ---- expressions and types
   mutual
-    expression_undone : Undone expression_names renamed_expression
+    expression_undone : Undone (names_in_expression used) renamed_expression
     expression_undone (literal l) h = refl
     expression_undone (parenthesized e) h = λ i. parenthesized (node_undone e h i)
     expression_undone (named_component base component) h = λ i. named_component (node_undone base h i) component
@@ -48,7 +54,7 @@ module _ (f g : Renaming) where
     node_undone : Undone node_names renamed_node
     node_undone (expression_node e span) h = λ i. expression_node (expression_undone e h i) span
 
-    expressions_undone : Undone expressions_names renamed_expressions
+    expressions_undone : Undone (names_in_all used) renamed_expressions
     expressions_undone no_expressions h = refl
     expressions_undone (expression_before e es) h =
         λ i. expression_before (node_undone e h.0 i) (expressions_undone es h.1 i)
@@ -59,7 +65,7 @@ module _ (f g : Renaming) where
     type_undone : Undone type_names renamed_type
     type_undone (type_expression name arguments) h = λ i. type_expression (h.0 i) (template_undone arguments h.1 i)
 
-    template_undone : Undone template_names renamed_template
+    template_undone : Undone (names_in_template used) renamed_template
     template_undone no_template h = refl
     template_undone (template arguments) h = λ i. template (expressions_undone arguments h i)
 
@@ -115,7 +121,14 @@ module _ (f g : Renaming) where
     node = record { expression = node_undone b.node.expression h.1 i };
   }
 
-  value_undone : (d : tree.Declaration) → IsUndone (value_names d) → g (f d.ident) ≡ d.ident
+  -- a name that is declared under a condition, or always
+  declared_undone : (branch : Option Branch) (name : Option (List ℕ)) → IsUndone (declared_in branch name)
+      → MaybeBack name
+  declared_undone None None h = tt
+  declared_undone None (Some x) h = h
+  declared_undone (Some branch) name h = h
+
+  value_undone : (d : tree.Declaration) → IsUndone (value_names d) → Back d.ident
       → renamed_declaration g (renamed_declaration f d) ≡ d
   value_undone d h same = λ i. record {
     kind = d.kind;
@@ -127,33 +140,38 @@ module _ (f g : Renaming) where
   mutual
     statement_undone : Undone statement_names (λ h. tree.changed_statement (renaming h))
     statement_undone (tree.statement attributes s) h =
-        λ i. tree.statement (attributes_undone attributes h.0 i) (unattributed_undone s h.1 i)
+        λ i. tree.statement (attributes_undone attributes h.0 i)
+        (unattributed_undone s h.1.0 (declared_undone (branch_under attributes) (name_declared s) h.1.1) i)
 
     statement_node_undone : Undone statement_node_names (λ h. tree.changed_node (renaming h))
     statement_node_undone (tree.statement_node s span) h = λ i. tree.statement_node (statement_undone s h i) span
 
-    unattributed_undone : Undone unattributed_names (λ h. tree.changed_unattributed (renaming h))
-    unattributed_undone (tree.compound ss) h = λ i. tree.compound (statements_undone ss h i)
-    unattributed_undone (tree.assignment a) h = λ i. tree.assignment
+    unattributed_undone : (s : tree.UnattributedStatement) → IsUndone (unattributed_names s)
+        → MaybeBack (name_declared s)
+        → tree.changed_unattributed (renaming g) (tree.changed_unattributed (renaming f) s) ≡ s
+    unattributed_undone (tree.compound ss) h same = λ i. tree.compound (statements_undone ss h i)
+    unattributed_undone (tree.assignment a) h same = λ i. tree.assignment
         (record { operator = a.operator; lhs = node_undone a.lhs h.0 i; rhs = node_undone a.rhs h.1 i })
-    unattributed_undone (tree.increment s) h = λ i. tree.increment (record { expression = node_undone s.expression h i })
-    unattributed_undone (tree.decrement s) h = λ i. tree.decrement (record { expression = node_undone s.expression h i })
-    unattributed_undone (tree.if_statement s) h = λ i. tree.if_statement (if_undone s h i)
-    unattributed_undone (tree.switch_statement s) h = λ i. tree.switch_statement (switch_undone s h i)
-    unattributed_undone (tree.loop_statement s) h = λ i. tree.loop_statement (loop_undone s h i)
-    unattributed_undone (tree.for_statement s) h = λ i. tree.for_statement (for_undone s h i)
-    unattributed_undone (tree.while_statement s) h = λ i. tree.while_statement (while_undone s h i)
-    unattributed_undone (tree.return_statement s) h =
+    unattributed_undone (tree.increment s) h same =
+        λ i. tree.increment (record { expression = node_undone s.expression h i })
+    unattributed_undone (tree.decrement s) h same =
+        λ i. tree.decrement (record { expression = node_undone s.expression h i })
+    unattributed_undone (tree.if_statement s) h same = λ i. tree.if_statement (if_undone s h i)
+    unattributed_undone (tree.switch_statement s) h same = λ i. tree.switch_statement (switch_undone s h i)
+    unattributed_undone (tree.loop_statement s) h same = λ i. tree.loop_statement (loop_undone s h i)
+    unattributed_undone (tree.for_statement s) h same = λ i. tree.for_statement (for_undone s h i)
+    unattributed_undone (tree.while_statement s) h same = λ i. tree.while_statement (while_undone s h i)
+    unattributed_undone (tree.return_statement s) h same =
         λ i. tree.return_statement (record { expression = maybe_node_undone s.expression h i })
-    unattributed_undone (tree.function_call_statement s) h =
+    unattributed_undone (tree.function_call_statement s) h same =
         λ i. tree.function_call_statement (record { call = call_undone s.call h i })
-    unattributed_undone (tree.const_assert c) h =
+    unattributed_undone (tree.const_assert c) h same =
         λ i. tree.const_assert (record { expression = node_undone c.expression h i })
-    unattributed_undone (tree.declaration d) h = λ i. tree.declaration (value_undone d h.0 h.1 i)
-    unattributed_undone tree.void h = refl
-    unattributed_undone tree.break_statement h = refl
-    unattributed_undone tree.continue_statement h = refl
-    unattributed_undone tree.discard_statement h = refl
+    unattributed_undone (tree.declaration d) h same = λ i. tree.declaration (value_undone d h same i)
+    unattributed_undone tree.void h same = refl
+    unattributed_undone tree.break_statement h same = refl
+    unattributed_undone tree.continue_statement h same = refl
+    unattributed_undone tree.discard_statement h same = refl
 
     compound_undone : Undone compound_names (λ h. tree.changed_compound (renaming h))
     compound_undone (tree.compound_statement attributes ss) h =
@@ -250,11 +268,11 @@ module _ (f g : Renaming) where
   parameters_undone [] h k = refl
   parameters_undone (p ∷ ps) h k = λ i. record {
     attributes = attributes_undone p.attributes h.0.0 i;
-    ident = k.0 i;
+    ident = declared_undone (branch_under p.attributes) (Some p.ident) k.0 i;
     ty = type_undone p.ty h.0.1 i;
   } ∷ parameters_undone ps h.1 k.1 i
 
-  function_undone : (x : unit.Function) → IsUndone (function_names x) → g (f x.ident) ≡ x.ident
+  function_undone : (x : unit.Function) → IsUndone (function_names x) → Back x.ident
       → renamed_function g (renamed_function f x) ≡ x
   function_undone x h same = λ i. record {
     ident = same i;
@@ -265,7 +283,7 @@ module _ (f g : Renaming) where
   }
 
   -- a declaration, by its content and by the name that it declares
-  content_undone : (d : unit.UnattributedDeclaration) → IsUndone (content_names d) → IsUndone (unattributed_declared d)
+  content_undone : (d : unit.UnattributedDeclaration) → IsUndone (content_names d) → MaybeBack (global_name d)
       → renamed_unattributed g (renamed_unattributed f d) ≡ d
   content_undone unit.void h same = refl
   content_undone (unit.declaration d) h same = λ i. unit.declaration (value_undone d h same i)
@@ -286,7 +304,8 @@ module _ (f g : Renaming) where
   globals_undone (d ∷ ds) h k = λ i. record {
     node = record {
       attributes = attributes_undone d.node.attributes h.0.0 i;
-      node = content_undone d.node.node h.0.1 k.0 i;
+      node = content_undone d.node.node h.0.1
+          (declared_undone (branch_under d.node.attributes) (global_name d.node.node) k.0) i;
     };
     span = d.span;
   } ∷ globals_undone ds h.1 k.1 i
@@ -299,7 +318,7 @@ module _ (f g : Renaming) where
       → ((x : List ℕ) → Contains (spelled (unit_names u)) x → g (f x) ≡ x)
       → renamed_unit g (renamed_unit f u) ≡ u
   unit_undone u undoes =
-      let h = each_spelled (λ x. g (f x) ≡ x) (unit_names u) undoes in
+      let h = each_spelled Back (unit_names u) undoes in
       λ i. record {
         global_directives = directives_undone u.global_directives h.1.0 i;
         global_declarations = globals_undone u.global_declarations h.1.1 h.0 i;
