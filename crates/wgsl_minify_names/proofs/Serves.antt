@@ -202,7 +202,7 @@ module _ (locals : Bool) (keep : List (List ℕ)) (n : Names) (fixed order : Lis
       (Contains-get_or (keys_of table) k d.0 (omega (arith, length-keys_of table))) in
       ap not (key_free key (is_in_from key (keys_of table) there))
 
-  -- a name that comes before another among the others does so in the whole module
+  -- a name that comes before another among the others comes before it in the whole module
   before_in_all : (x y : List ℕ) → test x ≡ true → test y ≡ true → Before (others_of n fixed) x y → ComesBefore n x y
   before_in_all x y tx ty (inl less) =
       let first = count-filter test x (spelled n) tx in

@@ -62,7 +62,10 @@ with_declaration (Some x) known = record { names = with_name known.names x; in_e
 -- what is declared after an alternative: at the one under `@else` the name that each declares
 abbrev pub with_alternative : Branch → Option (List ℕ) → Declared → Declared
 with_alternative under_if name known = record { names = known.names; in_each = name }
-with_alternative under_elif name known = record { names = known.names; in_each = same_name known.in_each name }
+with_alternative under_elif name known = record {
+  names = known.names;
+  in_each = same_name known.in_each name;
+}
 with_alternative under_else name known = with_declaration (same_name known.in_each name) known
 with_alternative under_several name known = with_declaration None known
 
@@ -79,7 +82,9 @@ abbrev pub past : InScope → Occurrence → InScope
 past known (use_of x) = known
 past known (unknown_name x) = known
 past known (declaration_of x) = record known { declared = with_declaration (Some x) known.declared }
-past known (alternative_of branch name) = record known { declared = with_alternative branch name known.declared }
+past known (alternative_of branch name) = record known {
+  declared = with_alternative branch name known.declared;
+}
 past known scope_start = record known {
   starts = (length known.declared.names, known.declared.in_each) ∷ known.starts;
 }

@@ -57,8 +57,8 @@ impl<'t> Scopes<'t> {
     }
 
     /// Returns the name that stays at an occurrence: one that may refer to something outside of the
-    /// module, or of which it is not known what it refers to. With `locals` this is also a name that
-    /// is declared in no scope.
+    /// module, or of which it is not known what it refers to. With `locals` also one that is
+    /// declared in no scope.
     pub fn staying(&self, occurrence: Occurrence<'t>, locals: bool) -> Option<&'t str>
         ensures { texts (option_to_list result)
             ≡ staying_at locals (scopes_view self.now) (occurrence_view occurrence.entry) }
@@ -79,8 +79,8 @@ impl<'t> Scopes<'t> {
 
     /// Goes over a declaration, if there is one, that is there whatever the conditions.
     fn declare(&mut self, name: Option<&'t str>) -> Result<(), AllocError>
-        ensures declared { OnOk result
-            (declared_view self.new ≡ with_declaration (name_view name.entry) (declared_view self.old)) }
+        ensures declared { OnOk result (declared_view self.new
+            ≡ with_declaration (name_view name.entry) (declared_view self.old)) }
         ensures starts { self.new.starts ≡ self.old.starts }
     {
         self.in_each = None;
@@ -92,8 +92,8 @@ impl<'t> Scopes<'t> {
 
     /// Goes over what is there under a condition, with the name that it declares.
     fn meet_alternative(&mut self, branch: Branch, name: Option<&'t str>) -> Result<(), AllocError>
-        ensures declared { OnOk result (declared_view self.new
-            ≡ with_alternative (branch_view branch) (name_view name.entry) (declared_view self.old)) }
+        ensures declared { OnOk result (declared_view self.new ≡ with_alternative
+            (branch_view branch) (name_view name.entry) (declared_view self.old)) }
         ensures starts { self.new.starts ≡ self.old.starts }
     {
         match branch {
