@@ -29,10 +29,22 @@ WRITTEN = f"Written by tools/tables/collected_names.py from {TABLE}"
 APART = ["TranslationUnit"]
 # what the functions use that is by hand, and `put_compound`: its module, and how it is used
 USED = {"AllocError": ["std::alloc"], "Collected": ["crate::collected"],
-        "Occurrence": ["crate::collected"], "Named": ["crate::named", ".put_names("],
-        "put_call": ["crate::expression"], "put_compound": ["crate::statement_nodes"],
+        "Kind": ["crate::collected"], "Occurrence": ["crate::collected"],
+        "Named": ["crate::named", ".put_names("], "put_declared": ["crate::declared"],
+        "put_call": ["crate::expression"], "put_expression": ["crate::expression"],
+        "put_unknown": ["crate::expression"], "put_compound": ["crate::statement_nodes"],
         "put_declared_parameters": ["crate::unit"]}
+# the enums whose variants declare names: what says which, what says it with the attributes, and
+# what the functions are named by
+DECLARING = {"Statement": ("name_declared", "statement_declared", "declared_statement"),
+             "GlobalDeclaration": ("global_name", "global_declared", "declared_global")}
 GIVEN = "found: &mut Collected<'t>) -> Result<(), AllocError>"
+
+
+def laid(pattern, body):
+    """An arm of a `match`, in braces where it has several calls or is too long for a line."""
+    arm = f"{pattern} => {body},"
+    return f"{pattern} => {{ {body} }}" if "?;" in body or len(pattern) < 80 < len(arm) - 8 else arm
 
 
 class Collects:
@@ -63,16 +75,17 @@ class Collects:
         place = ".".join(filter(None, [node, step.place]))
         if step.what in ("start", "end"):
             return f"found.put(Occurrence::Scope{step.what.capitalize()})"
-        if step.what in ("use", "declare"):
-            made = {"use": "Use", "declare": "Declaration"}[step.what]
-            return f"found.put(Occurrence::{made}({place}.name()))"
+        if step.what == "use":
+            return f"found.put(Occurrence::Use({place}.name()))"
+        if step.what == "unknown":
+            return f"put_unknown(&{place}, found)"
         if step.what == "all":
             return f"put_declared_parameters(&{place}, found)"
         held = self.held(kind, step.place) if node and step.place else ""
         if held and self.cycle.has(Part("", held)):
             return f"put_{self.cycle.stem(held)}(&{place}, found)"
         if held == "FunctionCall":
-            return f"put_call(&{place}, found)"
+            return f"put_call(&{place}, Kind::Use, found)"
         return f"{place}.put_names(found)"
 
     def body(self, kind, steps, node):
@@ -103,7 +116,8 @@ class Collects:
         """That of an attribute, if there are names of the module in it."""
         if held == "Expression":
             right = self.defined.argument("attribute_names", made)
-            return right != ["nothing"] and "inner.put_names(found)"
+            return ("put_expression(inner, Kind::Unknown, found)" if "unknown" in right
+                    else "inner.put_names(found)")
         if struct and self.defined.clause("attribute_names", short(held)):
             return self.body(struct, self.said.steps(struct), "inner")
         return ""
@@ -120,8 +134,7 @@ class Collects:
                 without.append(f"{full}(_)" if held else full)
             elif inner != "inner":
                 without.append(f"{full}(None)")
-        texts = [f"{' | '.join(patterns)} => {{ {body} }}" if "?;" in body
-                 else f"{' | '.join(patterns)} => {body}," for (_, body), patterns in arms.items()]
+        texts = [laid(" | ".join(patterns), body) for (_, body), patterns in arms.items()]
         texts += [f"{' | '.join(without)} => Ok(()),"] * bool(without)
         return f"match {node} {{ {' '.join(texts)} }}"
 
@@ -168,9 +181,11 @@ class Collects:
         if stem in self.lemmas:
             mark += f"#[tactic(auto, using(crate::proofs::Blocks::{stem}_before))]\n"
         mark += "pub(crate) " * (kind.name == "CompoundStatement")
+        body = self.collected(kind, "node")
+        if kind.name in DECLARING:
+            body = f"put_{DECLARING[kind.name][2]}(node, found)?; {body}"
         return self.function(stem, f"node: &'t {kind.name}",
-                             f"{self.said.names(kind)} ({view} node.now)",
-                             self.collected(kind, "node"), mark)
+                             f"{self.said.names(kind)} ({view} node.now)", body, mark)
 
     def own_names(self, part, place):
         """The names of a list or of a part that may be left out."""
@@ -192,21 +207,21 @@ class Collects:
                              self.own_names(part, "part.now"), body)
 
     def declared(self, kind):
-        """The function that collects what a declaration of a module declares."""
-        arms, without = [], []
-        for name, held in kind.parts:
-            clause = self.defined.clause("unattributed_declared", constructor(kind, name))
-            full = f"{kind.name}::{name}"
-            steps = clause and self.said.of_clause(clause, self.table.by_name[held])
-            if steps:
-                arms.append(f"{full}(inner) => &inner.{steps[0].place},")
-            else:
-                without.append(f"{full}(_)" if held else full)
-        view = self.cycle.views[kind.name].name
-        body = (f"let ident = match node.node() {{ {' '.join(arms)} {' | '.join(without)} => "
-                "return Ok(()), }; found.put(Occurrence::Declaration(ident.name()))")
-        return self.function("declared", f"node: &'t {kind.name}Node",
-                             f"global_declared (spanned_view {view} node.now)", body, "pub(crate) ")
+        """The function that collects what a statement or a declaration of a module declares."""
+        named, names, stem = DECLARING[kind.name]
+        arms, is_global = [], kind.name == "GlobalDeclaration"
+        for name, held in filter(lambda it: it[1], kind.parts):
+            clause = self.defined.clause(named, constructor(kind, name))
+            some = clause and re.fullmatch(r"Some \w+\.(\w+)", " ".join(clause[1]))
+            ident = f"Some(inner.{some[1]}.name())" if some else "None"
+            arms.append(laid(f"{kind.name}::{name}(inner)",
+                             f"put_declared(&inner.attributes, {ident}, found)"))
+        without = " | ".join(f"{kind.name}::{name}" for name, held in kind.parts if not held)
+        node, view = "node" + ".node()" * is_global, self.cycle.views[kind.name].name
+        return self.function(stem, f"node: &'t {kind.name}{'Node' * is_global}",
+                             f"{names} ({'spanned_view ' * is_global}{view} node.now)",
+                             f"match {node} {{ {' '.join(arms)} {without} => Ok(()), }}",
+                             "pub(crate) " * is_global)
 
     def functions(self):
         """The functions of a crate."""
@@ -217,7 +232,7 @@ class Collects:
                 continue
             elif kind.form != "struct" or self.said.of_struct(kind):
                 yield self.implemented(kind)
-            if kind.name == "GlobalDeclaration":
+            if kind.name in DECLARING:
                 yield self.declared(kind)
         if self.crate == self.cycle.crate:
             yield from map(self.own_function, self.cycle.own_parts())
@@ -243,8 +258,10 @@ class Collects:
         views = {it for it in words if it.endswith("_view")} - {"spanned_view", *of_words}
         yield from ghost_uses(f"wgsl_tree_{self.crate}.specs.View", sorted(views))
         yield from ghost_uses("wgsl_tree_words.specs.View", of_words)
-        for name, file in (("attributed", "Attributed"), ("Collects", "Found")):
-            yield from ghost_uses(f"wgsl_tree_names.specs.{file}", [name] * (name in words))
+        for file, names in (("Attributed", ["attributed", "statement_declared"]),
+                            ("Found", ["Collects"])):
+            yield from ghost_uses(f"wgsl_tree_names.specs.{file}",
+                                  [name for name in names if name in words])
 
     def code(self):
         """The file of the functions."""

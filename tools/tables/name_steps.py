@@ -13,8 +13,8 @@ VARIANTS = {"Statement": "unattributed_names", "GlobalDeclaration": "content_nam
 
 @dataclass(frozen=True)
 class Step:
-    """A step: to "put" the names of a part, to "use" or "declare" a name, to declare the names of a
-    list, "all", or the "start" or the "end" of a scope."""
+    """A step: to "put" the names of a part, as uses or as "unknown" ones, to "use" a name, to declare
+    the names of a list, "all", or the "start" or the "end" of a scope."""
 
     what: str
     place: str = ""
@@ -39,6 +39,13 @@ def variables(pattern, table, kind):
     return found
 
 
+def words_in(said):
+    """The names in a term."""
+    if said[0] == "name":
+        return {said[1]}
+    return {name for part in said if isinstance(part, tuple) and part for name in words_in(part)}
+
+
 def steps_of(said, where):
     """The steps of a term, by the places of its variables."""
     if said[0] == "op":
@@ -52,7 +59,9 @@ def steps_of(said, where):
     place = ".".join(it for it in [where[name], *fields] if it and it != "node")
     if function == "each" and arguments[0][1].endswith("_declared"):
         return [Step("all", place)]
-    return [Step({"used": "use", "declared": "declare"}.get(function, "put"), place)]
+    if function == "used":
+        return [Step("use", place)]
+    return [Step("unknown" if "unknown" in words_in(said) else "put", place)]
 
 
 class Said:

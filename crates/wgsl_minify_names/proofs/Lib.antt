@@ -1,9 +1,10 @@
 pub mod Lists
 pub mod Tallies
-pub mod Ranked
 pub mod Identifiers
 pub mod Shorter
 pub mod Membership
+pub mod Places
+pub mod Ranked
 pub mod Passed
 pub mod Outside
 pub mod Growing

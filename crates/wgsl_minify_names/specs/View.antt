@@ -3,7 +3,7 @@ use Rattle.std.specs.Prelude.{ℕ, List, String, map, string_bytes}
 use Rattle.std.specs.Borrow.{Bor}
 use Rattle.std.specs.Global.{Global}
 use Rattle.wgsl_model_minify.specs.Renamed as chosen
-pub use Rattle.wgsl_tree_names.specs.Found.{occurrence_view}
+pub use Rattle.wgsl_tree_names.specs.Found.{branch_view, name_view, occurrence_view}
 use Rattle.wgsl_minify_names.specs.declared.table.Which.{Which}
 use Rattle.wgsl_minify_names.specs.declared.table.Which.TheVariants.{None, Locals, All}
 

@@ -1,9 +1,10 @@
 //! Names by how often they occur.
 
-ghost use Rattle.std.specs.Prelude.{◌≡◌, ◌≤◌, ℕ, List, bytes_eq, count_by, IfOk};
+ghost use Rattle.std.specs.Prelude.{◌≡◌, ℕ, List, bytes_eq, IfOk};
 ghost use Rattle.std.specs.List.{AllPairs, IsDistinct};
 ghost use Rattle.indexmap.specs.IndexMap.{keys};
 ghost use Rattle.wgsl_minify_names.specs.Counts.{count_in, found_in, same_text};
+ghost use Rattle.wgsl_minify_names.specs.Counts.{ComesBefore, IsFirstBefore};
 ghost use Rattle.wgsl_minify_names.specs.InScope.{is_in};
 ghost use Rattle.wgsl_minify_names.specs.View.{texts};
 
@@ -16,6 +17,8 @@ fn counts_of<'t>(alloc: Global, names: &[&'t str]) -> Result<IndexMap<&'t str, u
     ensures counts { IfOk result (λ counts. (x : List ℕ) →
         found_in counts.entries x ≡ count_in (texts names.now) x) }
     ensures once { IfOk result (λ counts. IsDistinct same_text (keys counts)) }
+    ensures placed { IfOk result (λ counts.
+        AllPairs (IsFirstBefore (texts names.now)) (texts (keys counts))) }
 {
     let mut counts: IndexMap<&'t str, usize> = IndexMap::new(alloc);
     for name in names {
@@ -37,9 +40,8 @@ fn keys_of<'t>(alloc: Global, counts: IndexMap<&'t str, usize>) -> Result<Vec<&'
 pub fn by_count<'t>(alloc: Global, names: &[&'t str]) -> Result<Vec<&'t str>, AllocError>
     ensures same { IfOk result (λ found. (x : List ℕ) → is_in x (texts found.items) ≡ is_in x (texts names.now)) }
     ensures once { IfOk result (λ found. IsDistinct bytes_eq (texts found.items)) }
-    ensures falling { IfOk result (λ found. AllPairs
-        (λ x y. count_by (bytes_eq y) (texts names.now) ≤ count_by (bytes_eq x) (texts names.now))
-        (texts found.items)) }
+    ensures ordered { IfOk result (λ found.
+        AllPairs (ComesBefore (texts names.now)) (texts found.items)) }
 {
     let mut counts = counts_of(alloc, names)?;
     counts.sort_by_key(|_name: &&str, count: &usize| -> Reverse<usize> { Reverse(*count) })?;

@@ -35,9 +35,9 @@ fn push_some<'t>(names: &mut Vec<&'t str>, name: Option<&'t str>) -> Result<(), 
     Ok(())
 }
 
-/// Returns the names that stay: those that refer to something outside of the module, with `locals`
-/// those that are declared in no scope, those to be kept, and the words that keep their spelling. A
-/// name may be there more than once.
+/// Returns the names that stay: those that may refer to something outside of the module or of which
+/// it is not known what they refer to, with `locals` those that are declared in no scope, those to
+/// be kept, and the words that keep their spelling. A name may be there more than once.
 pub fn staying_names<'t>(
     alloc: Global,
     names: &[Occurrence<'t>],
@@ -58,20 +58,29 @@ pub fn staying_names<'t>(
     Ok(found)
 }
 
+/// Returns the name that occurs, if there is one.
+fn name_of<'t>(occurrence: Occurrence<'t>) -> Option<&'t str>
+    ensures { texts (option_to_list result) ≡ name_of (occurrence_view occurrence.entry) }
+{
+    match occurrence {
+        Occurrence::Use(name) | Occurrence::Unknown(name) | Occurrence::Declaration(name) => {
+            Some(name)
+        }
+        Occurrence::Alternative(_, name) => name,
+        Occurrence::ScopeStart | Occurrence::ScopeEnd => None,
+    }
+}
+
 /// Returns the name that occurs, if it is not in a set.
 fn other<'t>(occurrence: Occurrence<'t>, set: &IndexSet<&str>) -> Option<&'t str>
     ensures { texts (option_to_list result)
         ≡ filter (λ x. not (is_in x (texts set.now.keys))) (name_of (occurrence_view occurrence.entry)) }
 {
-    match occurrence {
-        Occurrence::Use(name) | Occurrence::Declaration(name) => {
-            if has(set, name) {
-                return None;
-            }
-            Some(name)
-        }
-        Occurrence::ScopeStart | Occurrence::ScopeEnd => None,
+    let name = name_of(occurrence)?;
+    if has(set, name) {
+        return None;
     }
+    Some(name)
 }
 
 /// Returns the names that occur and are not in a set, as often as they occur.

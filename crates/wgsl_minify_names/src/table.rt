@@ -78,9 +78,15 @@ fn new_names<'t>(
 
 /// Returns the names of a module that get new names, with these, from what is met in the module:
 /// each name that gets one once, those that occur most often first, and among those that occur
-/// equally often the first to occur first. A name of `keep`, a name that refers to something outside
-/// of the module, `_` and the words of address spaces and access modes get none. The error is that
-/// allocation fails.
+/// equally often the first to occur first. The error is that allocation fails.
+///
+/// These names stay, and none of them is a new name:
+///
+/// - those of `keep`;
+/// - those of which some use may refer to something outside of the module, also since what declares
+///   them is there only under a condition; not where each alternative up to `@else` declares them;
+/// - those in arguments of `@if`, of `@elif` and of attributes that the library does not know;
+/// - `_`, and the words of address spaces and access modes.
 pub fn choose<'t>(
     alloc: Global,
     names: &[Occurrence<'t>],

@@ -6,7 +6,8 @@ ghost use Rattle.wgsl_model_names.specs.Names.{spanned_attribute_names};
 ghost use Rattle.wgsl_span.specs.View.{spanned_view};
 ghost use Rattle.wgsl_tree_attribute.specs.View.{attribute_view};
 
-use crate::collected::{Collected, Occurrence};
+use crate::collected::{Collected, Kind, Occurrence};
+use crate::expression::{put_expression, put_unknown};
 use crate::named::Named;
 use std::alloc::AllocError;
 use wgsl_tree_attribute::{Attribute, AttributeNode};
@@ -27,6 +28,9 @@ impl Named for AttributeNode {
             | Attribute::Id(inner)
             | Attribute::Location(inner)
             | Attribute::Size(inner) => inner.put_names(found),
+            Attribute::If(inner) | Attribute::Elif(inner) => {
+                put_expression(inner, Kind::Unknown, found)
+            }
             Attribute::WorkgroupSize(inner) => {
                 inner.z.put_names(found)?;
                 inner.y.put_names(found)?;
@@ -36,9 +40,8 @@ impl Named for AttributeNode {
                 inner.variants.put_names(found)?;
                 found.put(Occurrence::Use(inner.ident.name()))
             }
-            Attribute::If(_)
-            | Attribute::Elif(_)
-            | Attribute::Builtin(_)
+            Attribute::Custom(inner) => put_unknown(&inner.arguments, found),
+            Attribute::Builtin(_)
             | Attribute::Const
             | Attribute::Invariant
             | Attribute::MustUse
@@ -47,8 +50,7 @@ impl Named for AttributeNode {
             | Attribute::Compute
             | Attribute::Else
             | Attribute::Diagnostic(_)
-            | Attribute::Interpolate(_)
-            | Attribute::Custom(_) => Ok(()),
+            | Attribute::Interpolate(_) => Ok(()),
         }
     }
 }

@@ -1,17 +1,44 @@
 //! Uses and declarations of names, collected from the end of a module to its start.
 
 ghost use Rattle.std.specs.Prelude.{◌≡◌, ◌∷◌, [], IfOk, map};
-ghost use Rattle.wgsl_tree_names.specs.Found.{collected, occurrence_view};
+ghost use Rattle.wgsl_tree_names.specs.Found.{collected, kind_view, occurrence_view, Collects};
 
 use std::alloc::{AllocError, Global};
+
+/// The condition under which something is in a module.
+#[derive(Clone, Copy, Debug)]
+pub enum Branch {
+    /// That of `@if`.
+    If,
+    /// That of `@elif`.
+    Elif,
+    /// That of `@else`.
+    Else,
+    /// Several conditions at once.
+    Several,
+}
 
 /// A use or a declaration of a name, or where a scope starts or ends.
 #[derive(Clone, Copy, Debug)]
 pub enum Occurrence<'t> {
     Use(&'t str),
+    /// A name of which it is not known what it refers to.
+    Unknown(&'t str),
+    /// A declaration that is there whatever the conditions.
     Declaration(&'t str),
+    /// What is there only under a condition: a declaration of this name, or what declares nothing.
+    Alternative(Branch, Option<&'t str>),
     ScopeStart,
     ScopeEnd,
+}
+
+/// What is known of the names of an expression.
+#[derive(Clone, Copy)]
+pub(crate) enum Kind {
+    /// They are uses.
+    Use,
+    /// It is not known what they refer to.
+    Unknown,
 }
 
 /// What is met from some place of a module to its end, the last first.
@@ -37,6 +64,16 @@ impl<'t> Collected<'t> {
             collected self.new ≡ occurrence_view occurrence.entry ∷ collected self.old) }
     {
         Ok(self.from_end.push(occurrence)?)
+    }
+
+    /// Puts a name of a kind before what was.
+    pub(crate) fn put_name(&mut self, kind: Kind, name: &'t str) -> Result<(), AllocError>
+        ensures { IfOk result (λ _. Collects (kind_view kind name.entry.now) self.old self.new) }
+    {
+        self.put(match kind {
+            Kind::Use => Occurrence::Use(name),
+            Kind::Unknown => Occurrence::Unknown(name),
+        })
     }
 
     /// Returns what is met, the first first.

@@ -3,6 +3,7 @@
 
 mod attribute_nodes;
 mod collected;
+mod declared;
 mod expression;
 mod named;
 mod simple_nodes;
@@ -10,5 +11,5 @@ mod statement_nodes;
 mod unit;
 mod unit_nodes;
 
-pub use collected::Occurrence;
+pub use collected::{Branch, Occurrence};
 pub use unit::occurrences;

@@ -8,7 +8,7 @@ ghost use Rattle.wgsl_model_names.specs.Scopes.{Names};
 ghost use Rattle.wgsl_tree_expression.specs.View.{expression_node_view, type_expression_view};
 ghost use Rattle.wgsl_tree_names.specs.Found.{Collects};
 
-use crate::collected::Collected;
+use crate::collected::{Collected, Kind};
 use crate::expression::{put_expression, put_type};
 use std::alloc::AllocError;
 use wgsl_tree_expression::{ExpressionNode, TypeExpression};
@@ -66,7 +66,7 @@ impl Named for ExpressionNode {
     ghost names = { node_names };
 
     fn put_names<'t>(&'t self, found: &mut Collected<'t>) -> Result<(), AllocError> {
-        put_expression(self, found)
+        put_expression(self, Kind::Use, found)
     }
 }
 
@@ -78,6 +78,6 @@ impl Named for TypeExpression {
     ghost names = { type_names };
 
     fn put_names<'t>(&'t self, found: &mut Collected<'t>) -> Result<(), AllocError> {
-        put_type(self, found)
+        put_type(self, Kind::Use, found)
     }
 }

@@ -14,7 +14,7 @@ ghost use Rattle.wgsl_tree_simple.specs.View.{return_view, selector_view};
 ghost use Rattle.wgsl_tree_words.specs.View.{address_space_view, access_mode_view};
 ghost use Rattle.wgsl_tree_names.specs.Attributed.{attributed};
 
-use crate::collected::{Collected, Occurrence};
+use crate::collected::{Collected, Kind, Occurrence};
 use crate::expression::put_call;
 use crate::named::Named;
 use std::alloc::AllocError;
@@ -183,7 +183,7 @@ impl Named for FunctionCallStatement {
     ghost names = { attributed (λ s. call_names s.call) };
 
     fn put_names<'t>(&'t self, found: &mut Collected<'t>) -> Result<(), AllocError> {
-        put_call(&self.call, found)?;
+        put_call(&self.call, Kind::Use, found)?;
         self.attributes.put_names(found)
     }
 }

@@ -19,10 +19,11 @@ ghost use Rattle.wgsl_tree_statement.specs.View.{loop_statement_view, statement_
 ghost use Rattle.wgsl_tree_statement.specs.View.{statement_nodes_view, statement_view};
 ghost use Rattle.wgsl_tree_statement.specs.View.{switch_clause_view, switch_statement_view};
 ghost use Rattle.wgsl_tree_statement.specs.View.{while_statement_view};
-ghost use Rattle.wgsl_tree_names.specs.Attributed.{attributed};
+ghost use Rattle.wgsl_tree_names.specs.Attributed.{attributed, statement_declared};
 ghost use Rattle.wgsl_tree_names.specs.Found.{Collects};
 
 use crate::collected::{Collected, Occurrence};
+use crate::declared::put_declared;
 use crate::named::Named;
 use std::alloc::AllocError;
 use wgsl_tree_statement::{
@@ -37,6 +38,7 @@ fn put_statement<'t>(node: &'t Statement, found: &mut Collected<'t>) -> Result<(
         (statement_names (statement_view node.now))
         found.old found.new) }
 {
+    put_declared_statement(node, found)?;
     match node {
         Statement::Compound(inner) => put_compound(inner, found),
         Statement::Assignment(inner) => inner.put_names(found),
@@ -53,9 +55,37 @@ fn put_statement<'t>(node: &'t Statement, found: &mut Collected<'t>) -> Result<(
         Statement::Discard(inner) => inner.attributes.put_names(found),
         Statement::FunctionCall(inner) => inner.put_names(found),
         Statement::ConstAssert(inner) => inner.put_names(found),
+        Statement::Declaration(inner) => inner.put_names(found),
+        Statement::Void => Ok(()),
+    }
+}
+
+fn put_declared_statement<'t>(
+    node: &'t Statement,
+    found: &mut Collected<'t>,
+) -> Result<(), AllocError>
+    ensures { IfOk result (λ _. Collects
+        (statement_declared (statement_view node.now))
+        found.old found.new) }
+{
+    match node {
+        Statement::Compound(inner) => put_declared(&inner.attributes, None, found),
+        Statement::Assignment(inner) => put_declared(&inner.attributes, None, found),
+        Statement::Increment(inner) => put_declared(&inner.attributes, None, found),
+        Statement::Decrement(inner) => put_declared(&inner.attributes, None, found),
+        Statement::If(inner) => put_declared(&inner.attributes, None, found),
+        Statement::Switch(inner) => put_declared(&inner.attributes, None, found),
+        Statement::Loop(inner) => put_declared(&inner.attributes, None, found),
+        Statement::For(inner) => put_declared(&inner.attributes, None, found),
+        Statement::While(inner) => put_declared(&inner.attributes, None, found),
+        Statement::Break(inner) => put_declared(&inner.attributes, None, found),
+        Statement::Continue(inner) => put_declared(&inner.attributes, None, found),
+        Statement::Return(inner) => put_declared(&inner.attributes, None, found),
+        Statement::Discard(inner) => put_declared(&inner.attributes, None, found),
+        Statement::FunctionCall(inner) => put_declared(&inner.attributes, None, found),
+        Statement::ConstAssert(inner) => put_declared(&inner.attributes, None, found),
         Statement::Declaration(inner) => {
-            found.put(Occurrence::Declaration(inner.ident.name()))?;
-            inner.put_names(found)
+            put_declared(&inner.attributes, Some(inner.ident.name()), found)
         }
         Statement::Void => Ok(()),
     }

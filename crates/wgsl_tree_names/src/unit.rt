@@ -9,8 +9,9 @@ ghost use Rattle.wgsl_tree_names.specs.Found.{Collects, occurrence_view};
 ghost use Rattle.wgsl_tree_unit.specs.View.{global_declaration_view, parameter_view, unit_view};
 
 use crate::collected::{Collected, Occurrence};
+use crate::declared::put_declared;
 use crate::named::Named;
-use crate::unit_nodes::put_declared;
+use crate::unit_nodes::put_declared_global;
 use std::alloc::{AllocError, Global};
 use wgsl_tree_unit::{FormalParameter, GlobalDeclarationNode, TranslationUnit};
 
@@ -23,7 +24,8 @@ pub(crate) fn put_declared_parameters<'t>(
         (each parameter_declared (map parameter_view parameters.now.items)) found.old found.new) }
 {
     'parameters: for i in (0..parameters.len()).rev() {
-        found.put(Occurrence::Declaration(parameters[i].ident.name()))?;
+        let parameter = &parameters[i];
+        put_declared(&parameter.attributes, Some(parameter.ident.name()), found)?;
     }
     Ok(())
 }
@@ -38,7 +40,7 @@ fn put_all_declared<'t>(
         found.old found.new) }
 {
     'nodes: for i in (0..nodes.len()).rev() {
-        put_declared(&nodes[i], found)?;
+        put_declared_global(&nodes[i], found)?;
     }
     Ok(())
 }
@@ -47,7 +49,11 @@ fn put_all_declared<'t>(
 ///
 /// What the module itself declares is first, since it is in scope in the whole module. All else is
 /// in the order of the text, but each declaration is where its scope starts: that of a value in a
-/// block after its type and its value, those of parameters after the types of the function.
+/// block after its type and its value, those of parameters after the types of the function. What is
+/// under `@if`, `@elif` or `@else` is an alternative where its declaration would be, also if it
+/// declares nothing. Of the names in arguments of `@if`, of `@elif` and of attributes that the
+/// library does not know it is not known what they refer to.
+///
 /// The only error is that allocation fails.
 pub fn occurrences<'t>(
     alloc: Global,

@@ -15,6 +15,7 @@ ghost use Rattle.wgsl_tree_names.specs.Attributed.{attributed};
 ghost use Rattle.wgsl_tree_names.specs.Found.{Collects};
 
 use crate::collected::{Collected, Occurrence};
+use crate::declared::put_declared;
 use crate::named::Named;
 use crate::statement_nodes::put_compound;
 use crate::unit::put_declared_parameters;
@@ -59,7 +60,7 @@ impl Named for GlobalDeclarationNode {
     }
 }
 
-pub(crate) fn put_declared<'t>(
+pub(crate) fn put_declared_global<'t>(
     node: &'t GlobalDeclarationNode,
     found: &mut Collected<'t>,
 ) -> Result<(), AllocError>
@@ -67,14 +68,22 @@ pub(crate) fn put_declared<'t>(
         (global_declared (spanned_view global_declaration_view node.now))
         found.old found.new) }
 {
-    let ident = match node.node() {
-        GlobalDeclaration::Declaration(inner) => &inner.ident,
-        GlobalDeclaration::TypeAlias(inner) => &inner.ident,
-        GlobalDeclaration::Struct(inner) => &inner.ident,
-        GlobalDeclaration::Function(inner) => &inner.ident,
-        GlobalDeclaration::Void | GlobalDeclaration::ConstAssert(_) => return Ok(()),
-    };
-    found.put(Occurrence::Declaration(ident.name()))
+    match node.node() {
+        GlobalDeclaration::Declaration(inner) => {
+            put_declared(&inner.attributes, Some(inner.ident.name()), found)
+        }
+        GlobalDeclaration::TypeAlias(inner) => {
+            put_declared(&inner.attributes, Some(inner.ident.name()), found)
+        }
+        GlobalDeclaration::Struct(inner) => {
+            put_declared(&inner.attributes, Some(inner.ident.name()), found)
+        }
+        GlobalDeclaration::Function(inner) => {
+            put_declared(&inner.attributes, Some(inner.ident.name()), found)
+        }
+        GlobalDeclaration::ConstAssert(inner) => put_declared(&inner.attributes, None, found),
+        GlobalDeclaration::Void => Ok(()),
+    }
 }
 
 impl Named for Struct {

@@ -1,7 +1,7 @@
-use Rattle.std.proofs.Common.{◌≡◌, ◌≤◌, ◌∙◌, ◌++◌, filter, not, ap, subst}
-use Rattle.std.specs.Prelude.{bytes_eq, count_by}
+use Rattle.std.proofs.Common.{◌≡◌, ◌∙◌, ◌++◌, filter, not, ap, subst}
 use Rattle.std.specs.List.{AllPairs}
 use Rattle.wgsl_model_minify.specs.Renamed.{fixed_words}
+use Rattle.wgsl_minify_names.specs.Counts.{ComesBefore}
 use Rattle.wgsl_minify_names.specs.InScope.{is_in, names_of, no_scopes, staying}
 use Rattle.wgsl_minify_names.specs.View.{table_view, texts}
 use Rattle.wgsl_minify_names.proofs.Passed.{staying_found, names_spelled}
@@ -24,9 +24,8 @@ returns c = λ unit e.
       stay = λ x. c.in_ok-staying-2.ensures x ∙ ap (is_in x) stay;
       same = λ x. c.in_ok-ordered.ensures.same x ∙ ap (is_in x) others;
       once = c.in_ok-ordered.ensures.once;
-      falling = subst (λ l. AllPairs (λ x y. count_by (bytes_eq y) l ≤ count_by (bytes_eq x) l)
-          (texts c.in_ok-ordered.ordered.items))
-          others c.in_ok-ordered.ensures.falling;
+      ordered = subst (λ l. AllPairs (ComesBefore l) (texts c.in_ok-ordered.ordered.items)) others
+          c.in_ok-ordered.ensures.ordered;
       names = c.in_ok-table.ensures.names ∙ ap texts c.deref-3.ensures.value;
       fresh = c.in_ok-table.ensures.fresh;
       letters = c.in_ok-table.ensures.letters;
