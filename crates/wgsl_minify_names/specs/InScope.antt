@@ -8,14 +8,14 @@ use Rattle.wgsl_model_minify.specs.Occurrences.{Occurrence, use_of, unknown_name
 use Rattle.wgsl_minify_names.specs.View.{name_view, texts}
 use Rattle.wgsl_minify_names.specs.declared.scope.Scopes.{Scopes}
 
--- what is declared: the names that are declared whatever the conditions, each once, and the name that
--- each alternative since the last `@if` declares
+-- what is declared: the names that are declared whatever the conditions, each once, and the name
+-- that each alternative since the last `@if` declares
 pub record Declared : Type 0 where
   pub names : List (List ℕ)
   pub in_each : Option (List ℕ)
 
--- what is declared, and what was where each open scope started, the last scope first: how many names,
--- and the name in each alternative
+-- what is declared, and what was where each open scope started, the last scope first: how many
+-- names, and the name in each alternative
 pub record InScope : Type 0 where
   pub declared : Declared
   pub starts : List (ℕ × Option (List ℕ))
@@ -97,8 +97,8 @@ none_open (start ∷ starts) = false
 abbrev pub staying_own : Bool → InScope → Option (List ℕ) → List (List ℕ)
 staying_own locals known name = if locals && none_open known.starts then option_to_list name else []
 
--- the name that stays at an occurrence: one that is used where it may not be declared, one of which it
--- is not known what it refers to, and a declared one of the module's own
+-- the name that stays at an occurrence: one that is used where it may not be declared, one of which
+-- it is not known what it refers to, and a declared one of the module's own
 abbrev pub staying_at : Bool → InScope → Occurrence → List (List ℕ)
 staying_at locals known (use_of x) = if is_in x known.declared.names then [] else x ∷ []
 staying_at locals known (unknown_name x) = x ∷ []
