@@ -10,6 +10,7 @@ that the library prints by, and their numbers for the writer of the library and 
 with the places of each for that.
 """
 import re
+import textwrap
 from pathlib import Path
 
 RULES = Path("crates/wgsl_model_packed/rules")
@@ -73,12 +74,14 @@ def constants(rules):
 
 def binding(rules):
     """The same for Rust, with the table of the places."""
-    places = "".join(f'    b"{re.sub("[^$#%]", "", text)}",\n' for _, text, _ in rules)
+    places = " ".join(f'b"{re.sub("[^$#%]", "", text)}",' for _, text, _ in rules)
+    places = textwrap.fill(places, 99, initial_indent="    ", subsequent_indent="    ")
     return f"""\
 {constants(rules).replace("pub const", "pub(super) const")}
 /// The places of each rule, by its number: `$` for another rule, `#` for a text, `%` for a span.
 pub(super) static PLACES: [&[u8]; {len(rules)}] = [
-{places}];
+{places}
+];
 """
 
 

@@ -96,5 +96,7 @@ fn lines_of(names: &[&str]) -> String {
 fn names_of(map: &str) -> Vec<(String, String)> {
     let texts: Vec<&str> = map.split('"').skip(1).step_by(2).collect();
     let pairs = texts.chunks_exact(2);
-    pairs.map(|it| (it[0].to_owned(), it[1].to_owned())).collect()
+    pairs
+        .map(|it| (it[0].to_owned(), it[1].to_owned()))
+        .collect()
 }

@@ -2,7 +2,9 @@
 
 use centrelilac::form::to_form;
 use centrelilac::span::Span;
-use centrelilac::syntax::{Expression, ExpressionNode, LiteralExpression, Statement, TypeConstraint};
+use centrelilac::syntax::{
+    Expression, ExpressionNode, LiteralExpression, Statement, TypeConstraint,
+};
 
 /// A variant without fields is its name, and an empty list has its brackets.
 #[test]

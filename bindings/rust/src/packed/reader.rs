@@ -10,8 +10,8 @@ use super::rules::*;
 use super::{Unpacked, DEEPEST};
 use crate::span::Span;
 use crate::syntax::Ident;
-pub use holes::Kind;
 use holes::Hole;
+pub use holes::Kind;
 
 /// A packed form of which a front is read, and what is left out of the tree that is read.
 #[derive(Debug)]

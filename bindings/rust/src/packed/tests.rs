@@ -195,7 +195,11 @@ fn numbers_fit_their_places() {
         (U32, "0", LiteralExpression::U32(0)),
         (U32, "4294967295", LiteralExpression::U32(u32::MAX)),
         (I32, "-2147483648", LiteralExpression::I32(i32::MIN)),
-        (INT, "-9223372036854775808", LiteralExpression::AbstractInt(i64::MIN)),
+        (
+            INT,
+            "-9223372036854775808",
+            LiteralExpression::AbstractInt(i64::MIN),
+        ),
     ] {
         assert_eq!(read(rule, digits), Some(number.into()));
     }
@@ -336,7 +340,13 @@ const LEVELS_OF_DEEPEST: usize = 100_000;
 /// Checks that trees of many levels are read from their packed forms, and how those print that are
 /// not too long.
 fn check_levels<T: Form + Packed + Unpacked>(tree: impl Fn(usize) -> T) {
-    for levels in [DEEPEST, DEEPEST + 1, 2 * DEEPEST, 2 * DEEPEST + 1, 5 * DEEPEST] {
+    for levels in [
+        DEEPEST,
+        DEEPEST + 1,
+        2 * DEEPEST,
+        2 * DEEPEST + 1,
+        5 * DEEPEST,
+    ] {
         check(&tree(levels));
     }
     check_read(&tree(LEVELS_OF_DEEPEST));
