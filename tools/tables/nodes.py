@@ -21,7 +21,7 @@ TEXT = Path("bindings/rust/tests/every_kind.wgsl")
 WRITTEN = f"written by tools/tables/nodes.py from {TABLE}."
 # the enums that have no name, although what a variant holds has one
 UNNAMED = ["Statement"]
-# the kinds that are printed beside their variants
+# the kinds that are printed, beside what variants hold
 PRINTED = ["TranslationUnit", "GlobalDirective", "GlobalDeclaration", "Statement", "Expression",
            "Attribute", "StructMember", "FormalParameter", "DeclarationKind", "CaseSelector",
            "IfClause", "ElseIfClause", "ElseClause", "SwitchClause", "ContinuingStatement",
