@@ -24,9 +24,8 @@
  * takes stack while the text is read: as measured over wgsl_recognize, wgsl_check, wgsl_format,
  * wgsl_tree and wgsl_c_packed_tree, at most 2,750 bytes for a block with its statement and 1,200 for
  * each other, in wgsl_minify 2,900 and 1,600, and in wgsl_tidy 1,250 for each. wgsl_nesting returns
- * how deep a text nests, and takes no such stack; nor does wgsl_c_print_packed. In wgsl_print each
- * node inside another takes at most 5,700 bytes for a block with its statement and 2,300 for each
- * other. A left operand, and what is before a component or an index, takes none.
+ * how deep a text nests, and takes no such stack; nor does wgsl_print. A left operand, and what is
+ * before a component or an index, takes none.
  *
  * Memory. While it runs, a call takes memory by the program's malloc, realloc and free, and gives
  * all of it back before it returns. Where they fail, the status is WGSL_OUT_OF_MEMORY. The three
@@ -83,8 +82,7 @@ enum wgsl_fault {
     WGSL_ATTRIBUTE = 7,
     /* A `var` template whose arguments do not fit. */
     WGSL_VAR_TEMPLATE = 8,
-    /* A text that is not the form of a node, or a number or a span in it that no node has. Only
-     * wgsl_print and wgsl_c_print_packed return it. */
+    /* Bytes that are not a packed form. Only wgsl_print returns it, without a place or a text. */
     WGSL_NOT_A_FORM = 10
 };
 
@@ -146,27 +144,13 @@ enum wgsl_names {
     WGSL_ALL_NAMES = 2
 };
 
-/* The kinds of trees that are read from a text, and of nodes that are printed. */
+/* The kinds of trees that are read from a text. */
 enum wgsl_tree_kind {
     WGSL_UNIT = 0,
     WGSL_DIRECTIVE = 1,
     WGSL_DECLARATION = 2,
     WGSL_STATEMENT = 3,
-    WGSL_EXPRESSION = 4,
-    /* Only wgsl_print takes those from here on. Each other node is one of these in a larger form: a
-     * struct of a statement is printed as the statement, with its name around it. */
-    WGSL_ATTRIBUTE_NODE = 5,
-    WGSL_STRUCT_MEMBER = 6,
-    WGSL_PARAMETER = 7,
-    WGSL_DECLARATION_KIND = 8,
-    WGSL_CASE_SELECTOR = 9,
-    WGSL_IF_CLAUSE = 10,
-    WGSL_ELSE_IF_CLAUSE = 11,
-    WGSL_ELSE_CLAUSE = 12,
-    WGSL_SWITCH_CLAUSE = 13,
-    WGSL_CONTINUING = 14,
-    WGSL_BREAK_IF = 15,
-    WGSL_TYPE_CONSTRAINT = 16
+    WGSL_EXPRESSION = 4
 };
 
 /* The kinds of tokens and comments, written by tools/tables/tokens.py. Only
@@ -261,11 +245,9 @@ enum wgsl_token_kind {
 
 /* The exports of the library, which the functions below call. They are for languages that read no
  * header. They test no pointer and no number: none of theirs may be null, even with the number 0,
- * and what is counted has at most WGSL_GREATEST bytes. wgsl_c_packed_tree and wgsl_c_print_packed
- * are for the Rust crate, and no function below calls them: they are wgsl_tree and wgsl_print with
- * the packed form of the tree, which docs/TREE.md describes, in place of JSON. What is printed does
- * not depend on the kind, and is UTF-8 if the texts in the form are; other bytes are WGSL_REFUSED
- * with WGSL_NOT_A_FORM, without a place or a text. */
+ * and what is counted has at most WGSL_GREATEST bytes. No function below calls wgsl_c_packed_tree:
+ * it is wgsl_tree with the packed form of the tree, which docs/TREE.md describes, in place of
+ * JSON. */
 uint32_t wgsl_c_format(const uint8_t *text, size_t size, uint8_t *buffer, size_t buffer_size,
                        struct wgsl_answer *answer);
 uint32_t wgsl_c_tidy(const struct wgsl_layout *layout, const uint8_t *text, size_t size,
@@ -281,12 +263,10 @@ uint32_t wgsl_c_recognize(const uint8_t *text, size_t size, uint8_t *buffer, siz
                           struct wgsl_answer *answer);
 uint32_t wgsl_c_tree(uint32_t kind, const uint8_t *text, size_t size, uint8_t *buffer,
                      size_t buffer_size, struct wgsl_answer *answer);
-uint32_t wgsl_c_print(uint32_t kind, const uint8_t *form, size_t size, uint8_t *buffer,
-                      size_t buffer_size, struct wgsl_answer *answer);
 uint32_t wgsl_c_packed_tree(uint32_t kind, const uint8_t *text, size_t size, uint8_t *buffer,
                             size_t buffer_size, struct wgsl_answer *answer);
-uint32_t wgsl_c_print_packed(const uint8_t *form, size_t size, uint8_t *buffer, size_t buffer_size,
-                             struct wgsl_answer *answer);
+uint32_t wgsl_c_print(const uint8_t *form, size_t size, uint8_t *buffer, size_t buffer_size,
+                      struct wgsl_answer *answer);
 uint32_t wgsl_c_tokens(const uint8_t *text, size_t size, struct wgsl_token *buffer,
                        size_t buffer_size, struct wgsl_answer *answer);
 uint32_t wgsl_c_tokens_with_comments(const uint8_t *text, size_t size, struct wgsl_token *buffer,
@@ -414,7 +394,7 @@ static inline uint32_t wgsl_recognize(const char *text, size_t size, char *buffe
 
 /* Writes the tree of a kind (enum wgsl_tree_kind) that a text is, by its text form, into the
  * buffer: JSON, with each field of each node and its place, as docs/TREE.md says, and no byte 0
- * after it. WGSL_UNKNOWN where the kind is not one that wgsl_tree takes. */
+ * after it. WGSL_UNKNOWN where the kind is not one of these. */
 static inline uint32_t wgsl_tree(uint32_t kind, const char *text, size_t size, char *buffer,
                                  size_t buffer_size, struct wgsl_answer *answer) {
     if (!wgsl_is_memory(text, size, 1) || !wgsl_is_memory(buffer, buffer_size, 1)
@@ -425,18 +405,17 @@ static inline uint32_t wgsl_tree(uint32_t kind, const char *text, size_t size, c
                        buffer_size, answer);
 }
 
-/* Writes the printed text of the node of a kind that a form describes into the buffer. The form is
- * as wgsl_tree writes it and docs/TREE.md says: exactly so, without blank space. The text does not
- * depend on the spans, but none of them may start after its end. Where the form is refused the
- * answer has the place in the form at which that shows, and the buffer has the message if it fits.
- * WGSL_UNKNOWN where the kind is not one of enum wgsl_tree_kind. */
-static inline uint32_t wgsl_print(uint32_t kind, const char *form, size_t size, char *buffer,
+/* Writes the printed text of the node that a packed form describes into the buffer: of a tree that
+ * wgsl_c_packed_tree wrote, or of a node of any kind, as docs/TREE.md says. The text does not depend
+ * on the spans, and is UTF-8 if the texts in the form are. Other bytes are WGSL_REFUSED with
+ * WGSL_NOT_A_FORM. */
+static inline uint32_t wgsl_print(const uint8_t *form, size_t size, char *buffer,
                                   size_t buffer_size, struct wgsl_answer *answer) {
     if (!wgsl_is_memory(form, size, 1) || !wgsl_is_memory(buffer, buffer_size, 1)
         || answer == NULL) {
         return WGSL_BAD_ARGUMENT;
     }
-    return wgsl_c_print(kind, (const uint8_t *)wgsl_at(form), size, (uint8_t *)wgsl_at(buffer),
+    return wgsl_c_print((const uint8_t *)wgsl_at(form), size, (uint8_t *)wgsl_at(buffer),
                         buffer_size, answer);
 }
 

@@ -1,62 +1,66 @@
-/* Text forms of nodes: one of each kind that wgsl_print takes, and some that it rejects. */
+/* Packed forms of nodes: one of each kind that is printed by itself, and some that are rejected. */
 #ifndef LIBRARY_FORMS_H
 #define LIBRARY_FORMS_H
 
-#include "wgsl.h"
+#include <stddef.h>
 
-#define NAME(name) "{\"ident\":\"" name "\",\"template_args\":null}"
-#define EXPRESSION(span) "{\"span\":" span ",\"node\":{\"TypeOrIdentifier\":" NAME("a") "}}"
-#define NO_ATTRIBUTES "{\"attributes\":[],"
-#define BODY "\"body\":" NO_ATTRIBUTES "\"statements\":[]}"
-#define PARAMETER NO_ATTRIBUTES "\"ident\":\"a\",\"ty\":" NAME("b") "}"
-#define IF(span) "\"expression\":" EXPRESSION(span) "," BODY "}"
+/* A number whose lowest byte is given, and a text after how many bytes it has. */
+#define NUMBER(byte) byte "\0\0\0\0\0\0\0"
+#define TEXT(size, text) NUMBER(size) text
+#define GREATEST "\377\377\377\377\377\377\377\377"
+#define SPAN NUMBER("\0") NUMBER("\0")
+/* Nodes after the numbers of their rules, of which docs/TREE.md says where they are. */
+#define NOTHING "\23"
+#define NAME(name) "\14" TEXT("\1", name)
+#define MUST_USE "\36" TEXT("\10", "must_use")
+#define BLOCK "\74" NOTHING "\100"
+#define OPENED_BLOCK "\74" NOTHING "\102"
 
-/* A form, its kind, and its printed text. */
+/* The bytes of a form, and how many they are. */
+#define FORM(bytes) bytes, sizeof(bytes) - 1
+
+/* A form, and its printed text. */
 static const struct printed_form {
-    uint32_t kind;
     const char *form;
+    size_t size;
     const char *text;
 } printed_forms[] = {
-    {WGSL_UNIT, "{\"global_directives\":[],\"global_declarations\":[]}", "\n"},
-    {WGSL_DIRECTIVE, "{\"Enable\":" NO_ATTRIBUTES "\"extensions\":[\"f16\"]}}", "enable f16;"},
-    {WGSL_DECLARATION, "\"Void\"", ";"},
-    {WGSL_STATEMENT, "\"Void\"", ";"},
-    {WGSL_EXPRESSION, "{\"Literal\":{\"I32\":-2147483648}}", "-2147483648i"},
-    {WGSL_EXPRESSION, "{\"TypeOrIdentifier\":" NAME("\\\"\\\\\\u001f") "}", "\"\\\x1f"},
-    {WGSL_ATTRIBUTE_NODE, "\"MustUse\"", "@must_use"},
-    {WGSL_STRUCT_MEMBER, PARAMETER, "a: b"},
-    {WGSL_PARAMETER, PARAMETER, "a: b"},
-    {WGSL_DECLARATION_KIND, "{\"Var\":[\"storage\",\"read\"]}", "var<storage, read>"},
-    {WGSL_CASE_SELECTOR, "{\"Expression\":" EXPRESSION("[3,18446744073709551615]") "}", "a"},
-    {WGSL_IF_CLAUSE, "{" IF("[0,0]"), "if a {\n\n}"},
-    {WGSL_ELSE_IF_CLAUSE, NO_ATTRIBUTES IF("[0,0]"), "else if a {\n\n}"},
-    {WGSL_ELSE_CLAUSE, NO_ATTRIBUTES BODY "}", "else {\n\n}"},
-    {WGSL_SWITCH_CLAUSE, NO_ATTRIBUTES "\"case_selectors\":[\"Default\"]," BODY "}",
-     "case default {\n\n}"},
-    {WGSL_CONTINUING, NO_ATTRIBUTES BODY ",\"break_if\":null}", "continuing {\n\n}"},
-    {WGSL_BREAK_IF, NO_ATTRIBUTES "\"expression\":" EXPRESSION("[1,2]") "}", "break if a;"},
-    {WGSL_TYPE_CONSTRAINT, "{\"ident\":\"T\",\"variants\":[" NAME("a") "," NAME("b") "]}",
-     "T, a | b"},
+    {FORM("\120" NOTHING NOTHING), "\n"},
+    {FORM("\124" NOTHING "\14" TEXT("\3", "f16")), "enable f16;"},
+    {FORM("\73\72" NOTHING), ";"},
+    {FORM("\73\61" NOTHING), "break;"},
+    {FORM("\3" TEXT("\13", "-2147483648")), "-2147483648i"},
+    {FORM("\14" TEXT("\3", "\"\\\x1f")), "\"\\\x1f"},
+    {FORM(MUST_USE), "@must_use"},
+    {FORM("\134" NOTHING TEXT("\1", "a") NAME("b")), "a: b"},
+    {FORM("\134\34" SPAN MUST_USE TEXT("\1", "a") NAME("b")), "@must_use a: b"},
+    {FORM("\51\52" TEXT("\7", "storage") "\42" TEXT("\4", "read")), "var<storage, read>"},
+    {FORM("\25" NUMBER("\3") GREATEST NAME("a")), "a"},
+    {FORM("\104" SPAN NAME("a") BLOCK), "if a {\n\n}"},
+    {FORM("\105" NOTHING SPAN NAME("a") BLOCK), "else if a {\n\n}"},
+    {FORM("\106" NOTHING BLOCK), "else {\n\n}"},
+    {FORM("\112" NOTHING "\27\71" BLOCK), "case default {\n\n}"},
+    {FORM("\115" NOTHING OPENED_BLOCK NOTHING), "continuing {\n\n}"},
+    {FORM("\70" NOTHING NUMBER("\1") NUMBER("\2") NAME("a")), "break if a;"},
+    {FORM("\46" TEXT("\1", "T") "\30" NAME("a") "\27" NAME("b")), "T, a | b"},
 };
 
-/* A text that is not the form of a node of a kind, where that shows, and the message. */
+/* Bytes that are no packed form: none; the number of no rule; a rule without what is in it; two
+ * forms; a number and a span that end too early; a text that does, and one that is too long; a
+ * level less than none. */
 static const struct refused_form {
-    uint32_t kind;
     const char *form;
-    size_t place;
-    const char *message;
+    size_t size;
 } refused_forms[] = {
-    {WGSL_CASE_SELECTOR, "", 0, "expected a `CaseSelector`"},
-    {WGSL_CASE_SELECTOR, "\"Void\"", 0, "expected a `CaseSelector`"},
-    {WGSL_CASE_SELECTOR, "\"Default\" ", 9, "expected the end of the form"},
-    {WGSL_CASE_SELECTOR, " \"Default\"", 0, "expected a `CaseSelector`"},
-    {WGSL_CASE_SELECTOR, "{\"Expression\":" EXPRESSION("[5,3]") "}", 27,
-     "the span starts after its end"},
-    {WGSL_CASE_SELECTOR, "{\"Expression\":" EXPRESSION("[0,18446744073709551616]") "}", 44,
-     "the number is out of range"},
-    {WGSL_EXPRESSION, "{\"Literal\":{\"U32\":4294967296}}", 27, "the number is out of range"},
-    {WGSL_PARAMETER, NO_ATTRIBUTES "\"ty\":" NAME("b") ",\"ident\":\"a\"}", 16,
-     "expected ,\"ident\":"},
+    {FORM("")},
+    {FORM("\137")},
+    {FORM("\73")},
+    {FORM("\71\71")},
+    {FORM("\14\1\0\0\0\0\0\0")},
+    {FORM("\25" NUMBER("\0"))},
+    {FORM("\14" TEXT("\2", "a"))},
+    {FORM("\14" GREATEST "a")},
+    {FORM("\77")},
 };
 
 #endif

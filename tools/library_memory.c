@@ -2,8 +2,8 @@
    second, and so on, and exits with the line of the first check that fails, or 0. Each call has to
    report out of memory or return what it returns undisturbed, to free all it allocated, and to
    make a request on some text. The texts are those below and those of tests/texts.txt; wgsl_print
-   has their text forms and those of library_forms.h. It is run at the top of the repository, and
-   linked with --wrap of malloc, realloc and free. */
+   has the packed forms of their trees and those of library_forms.h. It is run at the top of the
+   repository, and linked with --wrap of malloc, realloc and free. */
 #include <stdio.h>
 #include <stdlib.h>
 #include <string.h>
@@ -47,25 +47,12 @@ struct said {
 };
 
 enum { FORMAT, TIDIED, CHECKED, SNIPPET, IN_FILE, RECOGNIZED, TOKENS, COMMENTS, LISTS, BEGINS };
-enum { NESTING = BEGINS + 1, MINIFIED, PACKED, PACKED_PRINT, TREES };
-enum { PRINTS = TREES + WGSL_EXPRESSION + 1, CALLS = PRINTS + WGSL_TYPE_CONSTRAINT + 1 };
-
-/* Writes the packed form of a module into memory of its own, without a refused request. */
-static uint32_t pack(const char *text, size_t size, uint8_t *form, size_t form_size,
-                     struct wgsl_answer *answer) {
-    size_t which = refused;
-    uint32_t status;
-    refused = SIZE_MAX;
-    status = wgsl_c_packed_tree(WGSL_UNIT, (const uint8_t *)text, size, form, form_size, answer);
-    requests = 0;
-    refused = which;
-    return status;
-}
+enum { NESTING = BEGINS + 1, MINIFIED, PRINTED, TREES };
+enum { PACKED = TREES + WGSL_EXPRESSION + 1, CALLS = PACKED + WGSL_EXPRESSION + 1 };
 
 /* Makes a call; those from TREES on ask for the kinds of trees, one after another, and those from
-   PRINTS on print the kinds of nodes. */
+   PACKED on for their packed forms. PRINTED has a packed form in place of a text. */
 static uint32_t make(int call, const char *text, size_t size, struct said *said) {
-    static uint8_t form[32768];
     char *buffer = (char *)said->buffer;
     size_t buffer_size = sizeof said->buffer;
     struct wgsl_token *tokens = (struct wgsl_token *)said->buffer;
@@ -97,30 +84,24 @@ static uint32_t make(int call, const char *text, size_t size, struct said *said)
     case MINIFIED:
         return wgsl_minify(WGSL_ALL_NAMES, "f\na", 3, text, size, buffer, buffer_size,
                            &said->answer);
-    case PACKED:
-        return wgsl_c_packed_tree(WGSL_UNIT, (const uint8_t *)text, size, (uint8_t *)buffer,
-                                  buffer_size, &said->answer);
-    case PACKED_PRINT:
-        if (pack(text, size, form, sizeof form, &said->answer) != WGSL_DONE) {
-            return WGSL_REFUSED;
-        }
-        return wgsl_c_print_packed(form, said->answer.size, (uint8_t *)buffer, buffer_size,
-                                   &said->answer);
+    case PRINTED:
+        return wgsl_print((const uint8_t *)text, size, buffer, buffer_size, &said->answer);
     default:
         break;
     }
-    if (call < PRINTS) {
+    if (call < PACKED) {
         return wgsl_tree((uint32_t)(call - TREES), text, size, buffer, buffer_size, &said->answer);
     }
-    return wgsl_print((uint32_t)(call - PRINTS), text, size, buffer, buffer_size, &said->answer);
+    return wgsl_c_packed_tree((uint32_t)(call - PACKED), (const uint8_t *)text, size,
+                              (uint8_t *)buffer, buffer_size, &said->answer);
 }
 
 /* Makes a call with one request refused, and counts the requests. */
-static void ask(int call, const char *text, size_t which, struct said *said) {
+static void ask(int call, const char *text, size_t size, size_t which, struct said *said) {
     memset(said, 0, sizeof *said);
     requests = 0;
     refused = which;
-    said->status = make(call, text, strlen(text), said);
+    said->status = make(call, text, size, said);
 }
 
 static int is_same(const struct said *one, const struct said *other) {
@@ -146,16 +127,16 @@ static const char *const texts[] = {
 static size_t refusals[CALLS];
 
 /* Makes a call on a text with each of its requests refused. */
-static int check_call(int call, const char *text) {
+static int check_call(int call, const char *text, size_t size) {
     static struct said undisturbed, said;
     static const struct wgsl_answer nothing;
     size_t which, count;
-    ask(call, text, SIZE_MAX, &undisturbed);
+    ask(call, text, size, SIZE_MAX, &undisturbed);
     CHECK(undisturbed.status <= WGSL_REFUSED && blocks == 0);
     count = requests;
     refusals[call] += count;
     for (which = 0; which < count; which++) {
-        ask(call, text, which, &said);
+        ask(call, text, size, which, &said);
         CHECK(blocks == 0);
         if (said.status == WGSL_OUT_OF_MEMORY) {
             CHECK(memcmp(&said.answer, &nothing, sizeof nothing) == 0);
@@ -169,16 +150,14 @@ static int check_call(int call, const char *text) {
 /* Makes each call on a text, and prints each of its trees. */
 static int check(const char *text) {
     static struct said tree;
-    char *form = (char *)tree.buffer;
+    size_t size = strlen(text);
     int call, failed = 0;
-    for (call = 0; failed == 0 && call < PRINTS; call++) {
-        failed = check_call(call, text);
-        if (failed != 0 || call < TREES) continue;
-        ask(call, text, SIZE_MAX, &tree);
+    for (call = 0; failed == 0 && call < CALLS; call++) {
+        if (call != PRINTED) failed = check_call(call, text, size);
+        if (failed != 0 || call < PACKED) continue;
+        ask(call, text, size, SIZE_MAX, &tree);
         if (tree.status != WGSL_DONE) continue;
-        CHECK(tree.answer.size < sizeof tree.buffer);
-        form[tree.answer.size] = 0;
-        failed = check_call(call - TREES + PRINTS, form);
+        failed = check_call(PRINTED, (const char *)tree.buffer, tree.answer.size);
     }
     return failed;
 }
@@ -188,10 +167,10 @@ static int check_forms(void) {
     size_t at;
     int failed = 0;
     for (at = 0; failed == 0 && at < sizeof printed_forms / sizeof *printed_forms; at++) {
-        failed = check_call(PRINTS + (int)printed_forms[at].kind, printed_forms[at].form);
+        failed = check_call(PRINTED, printed_forms[at].form, printed_forms[at].size);
     }
     for (at = 0; failed == 0 && at < sizeof refused_forms / sizeof *refused_forms; at++) {
-        failed = check_call(PRINTS + (int)refused_forms[at].kind, refused_forms[at].form);
+        failed = check_call(PRINTED, refused_forms[at].form, refused_forms[at].size);
     }
     return failed;
 }

@@ -24,71 +24,62 @@ static int check_trees(void) {
     return 0;
 }
 
-static uint32_t print(uint32_t kind, const char *form, char *buffer, size_t buffer_size) {
-    return wgsl_print(kind, form, strlen(form), buffer, buffer_size, &answer);
+static uint32_t print(const void *form, size_t size, char *buffer, size_t buffer_size) {
+    return wgsl_print((const uint8_t *)form, size, buffer, buffer_size, &answer);
 }
 
-/* A form is printed, whatever its kind. */
+/* A packed form is printed, whatever node it is of. */
 static int check_prints(void) {
     const struct printed_form *it = printed_forms;
     for (; it < printed_forms + sizeof printed_forms / sizeof *printed_forms; it++) {
         size_t size = strlen(it->text);
         char buffer[64];
         memset(buffer, '#', sizeof buffer);
-        CHECK(print(it->kind, it->form, NULL, 0) == WGSL_TOO_SMALL && is_size(size));
-        CHECK(print(it->kind, it->form, buffer, size - 1) == WGSL_TOO_SMALL && is_size(size));
+        CHECK(print(it->form, it->size, NULL, 0) == WGSL_TOO_SMALL && is_size(size));
+        CHECK(print(it->form, it->size, buffer, size - 1) == WGSL_TOO_SMALL && is_size(size));
         CHECK(is_filled(buffer, sizeof buffer));
-        CHECK(print(it->kind, it->form, buffer, sizeof buffer) == WGSL_DONE && is_size(size));
+        CHECK(print(it->form, it->size, buffer, sizeof buffer) == WGSL_DONE && is_size(size));
         CHECK(memcmp(buffer, it->text, size) == 0);
         CHECK(is_filled(buffer + size, sizeof buffer - size));
     }
     return 0;
 }
 
-/* Another text is rejected, with the place where that shows and a message if it fits. */
+/* Other bytes are rejected, without a place or a text. */
 static int check_refused_forms(void) {
     const struct refused_form *it = refused_forms;
     for (; it < refused_forms + sizeof refused_forms / sizeof *refused_forms; it++) {
-        size_t size = strlen(it->message) + 1;
         char buffer[64];
         memset(buffer, '#', sizeof buffer);
-        CHECK(print(it->kind, it->form, buffer, size - 1) == WGSL_REFUSED);
-        CHECK(is_answer(size, it->place, it->place, WGSL_NOT_A_FORM, 0));
+        CHECK(print(it->form, it->size, NULL, 0) == WGSL_REFUSED);
+        CHECK(is_answer(0, 0, 0, WGSL_NOT_A_FORM, 0));
+        CHECK(print(it->form, it->size, buffer, sizeof buffer) == WGSL_REFUSED);
+        CHECK(is_answer(0, 0, 0, WGSL_NOT_A_FORM, 0));
         CHECK(is_filled(buffer, sizeof buffer));
-        CHECK(print(it->kind, it->form, buffer, sizeof buffer) == WGSL_REFUSED);
-        CHECK(is_answer(size, it->place, it->place, WGSL_NOT_A_FORM, 0));
-        CHECK(memcmp(buffer, it->message, size) == 0);
-        CHECK(is_filled(buffer + size, sizeof buffer - size));
     }
     return 0;
 }
 
-/* No kind has another number, and what is not text or not memory is reported first. */
+/* A text in a form is printed as it is, also if it is not UTF-8, and what is not memory is
+ * reported. */
 static int check_print_arguments(void) {
+    static const uint8_t form[] = NAME("\xff");
     char buffer[64];
     memset(buffer, '#', sizeof buffer);
-    CHECK(print(WGSL_TYPE_CONSTRAINT + 1, "\"Void\"", buffer, sizeof buffer) == WGSL_UNKNOWN);
-    CHECK(is_size(0) && print(UINT32_MAX, "", buffer, sizeof buffer) == WGSL_UNKNOWN && is_size(0));
-    CHECK(print(WGSL_STATEMENT, "\"\xff", buffer, sizeof buffer) == WGSL_NOT_UTF8);
-    CHECK(is_answer(0, 1, 1, 0, 0));
-    CHECK(print(UINT32_MAX, "\xff", buffer, sizeof buffer) == WGSL_NOT_UTF8 && is_size(0));
-    CHECK(wgsl_print(WGSL_STATEMENT, NULL, 1, buffer, 1, &answer) == WGSL_BAD_ARGUMENT);
-    CHECK(wgsl_print(WGSL_STATEMENT, "", SIZE_MAX, buffer, 1, &answer) == WGSL_BAD_ARGUMENT);
-    CHECK(wgsl_print(WGSL_STATEMENT, "", 0, NULL, 1, &answer) == WGSL_BAD_ARGUMENT);
-    CHECK(wgsl_print(WGSL_STATEMENT, "", 0, buffer, SIZE_MAX, &answer) == WGSL_BAD_ARGUMENT);
-    CHECK(wgsl_print(WGSL_STATEMENT, "", 0, buffer, 1, NULL) == WGSL_BAD_ARGUMENT);
-    CHECK(wgsl_print(WGSL_STATEMENT, NULL, 0, NULL, 0, &answer) == WGSL_REFUSED);
-    CHECK(answer.kind == WGSL_NOT_A_FORM && answer.size > 0 && is_filled(buffer, sizeof buffer));
+    CHECK(print(form, sizeof form - 1, buffer, sizeof buffer) == WGSL_DONE && is_size(1));
+    CHECK(buffer[0] == '\xff' && is_filled(buffer + 1, sizeof buffer - 1));
+    CHECK(wgsl_print(NULL, 1, buffer, 1, &answer) == WGSL_BAD_ARGUMENT);
+    CHECK(wgsl_print(form, SIZE_MAX, buffer, 1, &answer) == WGSL_BAD_ARGUMENT);
+    CHECK(wgsl_print(form, 0, NULL, 1, &answer) == WGSL_BAD_ARGUMENT);
+    CHECK(wgsl_print(form, 0, buffer, SIZE_MAX, &answer) == WGSL_BAD_ARGUMENT);
+    CHECK(wgsl_print(form, 0, buffer, 1, NULL) == WGSL_BAD_ARGUMENT);
+    CHECK(wgsl_print(NULL, 0, NULL, 0, &answer) == WGSL_REFUSED);
+    CHECK(is_answer(0, 0, 0, WGSL_NOT_A_FORM, 0));
     return 0;
 }
 
 static uint32_t pack(uint32_t kind, const char *text, uint8_t *form, size_t form_size) {
     return wgsl_c_packed_tree(kind, (const uint8_t *)text, strlen(text), form, form_size, &answer);
-}
-
-static uint32_t print_packed(const uint8_t *form, size_t size, uint8_t *buffer,
-                             size_t buffer_size) {
-    return wgsl_c_print_packed(form, size, buffer, buffer_size, &answer);
 }
 
 /* A tree has the packed form that its definition gives it, which is printed as the tree is; other
@@ -102,28 +93,30 @@ static int check_packed(void) {
     static const char module[] = "fn f(){if a{b=-c;}}";
     static const char text[] = "fn f() {\n    if a {\n        b = -c;\n    }\n}\n";
     static uint8_t form[1024];
-    uint8_t buffer[64];
+    char buffer[64];
     size_t size;
     CHECK(pack(WGSL_EXPRESSION, "a.b", form, sizeof form) == WGSL_DONE && is_size(sizeof named));
     CHECK(memcmp(form, named, sizeof named) == 0);
     CHECK(pack(WGSL_EXPRESSION, "a.b", form, sizeof named - 1) == WGSL_TOO_SMALL);
     CHECK(is_size(sizeof named));
-    CHECK(print_packed(named, sizeof named, buffer, 3) == WGSL_DONE && is_size(3));
+    CHECK(print(named, sizeof named, buffer, 3) == WGSL_DONE && is_size(3));
     CHECK(memcmp(buffer, "a.b", 3) == 0);
-    CHECK(print_packed(named, sizeof named, buffer, 2) == WGSL_TOO_SMALL && is_size(3));
+    CHECK(print(named, sizeof named, buffer, 2) == WGSL_TOO_SMALL && is_size(3));
     for (size = 0; size < sizeof named; size++) {
-        CHECK(print_packed(named, size, buffer, sizeof buffer) == WGSL_REFUSED);
+        CHECK(print(named, size, buffer, sizeof buffer) == WGSL_REFUSED);
         CHECK(is_answer(0, 0, 0, WGSL_NOT_A_FORM, 0));
     }
     CHECK(pack(WGSL_UNIT, module, form, sizeof form) == WGSL_DONE);
     size = answer.size;
-    CHECK(print_packed(form, size, buffer, sizeof buffer) == WGSL_DONE);
+    CHECK(print(form, size, buffer, sizeof buffer) == WGSL_DONE);
     CHECK(is_size(strlen(text)) && memcmp(buffer, text, strlen(text)) == 0);
-    CHECK(print_packed(form, size + 1, buffer, sizeof buffer) == WGSL_REFUSED);
+    CHECK(print(form, size + 1, buffer, sizeof buffer) == WGSL_REFUSED);
     CHECK(pack(WGSL_UNIT, "fn f(", form, sizeof form) == WGSL_REFUSED);
     CHECK(answer.kind == WGSL_UNEXPECTED_END && answer.start == 5);
-    CHECK(pack(WGSL_ATTRIBUTE_NODE, "@a", form, sizeof form) == WGSL_UNKNOWN && is_size(0));
+    CHECK(pack(WGSL_EXPRESSION + 1, "@a", form, sizeof form) == WGSL_UNKNOWN && is_size(0));
+    CHECK(pack(UINT32_MAX, "@a", form, sizeof form) == WGSL_UNKNOWN && is_size(0));
     CHECK(pack(WGSL_UNIT, "\xff", form, sizeof form) == WGSL_NOT_UTF8);
+    CHECK(pack(UINT32_MAX, "\xff", form, sizeof form) == WGSL_NOT_UTF8 && is_size(0));
     return 0;
 }
 

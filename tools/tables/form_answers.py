@@ -1,6 +1,5 @@
-"""Proofs that parts are written as a form or read from one, for tools/tables/form_proofs.py,
-tools/tables/form_readers.py, tools/tables/statement_forms.py and
-tools/tables/statement_readers.py."""
+"""Proofs that parts are written as a form, for tools/tables/form_proofs.py and
+tools/tables/statement_forms.py."""
 import re
 
 from node_specs import homes, place
@@ -16,13 +15,10 @@ PLACES = [("Rattle.std.proofs.Common", r"\b(ap|codes|refl|rules|sym|take)\b|(?<=
           ("Rattle.std.proofs.Output", r"\b(has_written_of_eq)\b"),
           ("Rattle.wgsl_writer.proofs.Joins", r"\b(before_next)\b"),
           (f"{CODES}.Code", r"\b(attributed_code|list)\b"),
-          ("HERE.Lists", r"\b(all_read|one_more|shorter_still)\b"),
-          ("HERE.Rows", r"(?<=[ (])((?:first|next)(?:_apart|_with)?|last|node_ended|node_read|read_as)\b"),
           ("HERE.StatementLists", r"\b(\w+_codes)\b"),
-          ("HERE.Statements", r"\b(is_block|block_form|closed|list_joined|one_joined|shown|"
-           r"variant_form)\b|(?<= )(▸)(?= )")]
-STATEMENTS = [("Rattle.wgsl_tree_statement.proofs.Views",
-               r"\b(is_(?!block)\w+|\w+_(?:roll|out))\b"),
+          ("HERE.Statements", r"\b(block_form|closed|list_joined|one_joined|shown|variant_form)\b"
+           r"|(?<= )(▸)(?= )")]
+STATEMENTS = [("Rattle.wgsl_tree_statement.proofs.Views", r"\b(is_\w+|\w+_(?:roll|out))\b"),
               (f"{CODES}.StatementNodes", r"\b((?!attributed_)\w+_code)\b"),
               (VIEW, r"\b(\w+_view)\b")]
 LAYERS = "Rattle.wgsl_tree_statement.specs.declared.statement.Statement.TheViews as layers"
@@ -33,19 +29,9 @@ def answer(name, arguments, proof):
     return f"pub {name} : goal.{name}\n{name} {arguments} = {proof}\n"
 
 
-def counted(name, number):
-    """The name of a step, of which there are several."""
-    return name if number == 1 else f"{name}-{number}"
-
-
 def argument(term):
     """A term as an argument."""
     return f"({term})" if " " in term else term
-
-
-def read(step):
-    """What a call that returned a value ensures."""
-    return f"c.in_ok-{step}.ensures"
 
 
 def found_in(body, places=(*PLACES, *STATEMENTS)):

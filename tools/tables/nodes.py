@@ -21,7 +21,7 @@ TEXT = Path("bindings/rust/tests/every_kind.wgsl")
 WRITTEN = f"written by tools/tables/nodes.py from {TABLE}."
 # the enums that have no name, although what a variant holds has one
 UNNAMED = ["Statement"]
-# the kinds that the library prints, by their numbers in enum wgsl_tree_kind of include/wgsl.h
+# the kinds that are printed, beside what variants hold
 PRINTED = ["TranslationUnit", "GlobalDirective", "GlobalDeclaration", "Statement", "Expression",
            "Attribute", "StructMember", "FormalParameter", "DeclarationKind", "CaseSelector",
            "IfClause", "ElseIfClause", "ElseClause", "SwitchClause", "ContinuingStatement",
@@ -185,15 +185,10 @@ def blocks(table, form):
                      if names and name != "CompoundStatement")
 
 
-def printed():
-    """The kinds that the library prints, with their numbers."""
-    return "\n".join(f"    {name} = {number}," for number, name in enumerate(PRINTED))
-
-
-def printed_variants(table):
-    """What is printed as a variant of one of these kinds."""
-    found = {held: "" for enum in PLAIN for _, held in table.by_name[enum].parts if held}
-    return "\n".join(f"    {held}" for held in found)
+def printed(table):
+    """What is printed: these kinds, and what is a variant of one of them."""
+    variants = [held for enum in PLAIN for _, held in table.by_name[enum].parts if held]
+    return "\n".join(f"    {name}" for name in dict.fromkeys([*PRINTED, *variants]))
 
 
 def read_as(table):
@@ -236,7 +231,7 @@ def write_rust(table):
     write_list("syntax/node_attributes", "Attributes and names of variants",
                ("held_attributes", attributes(table)))
     write_list("syntax/prints/node_prints", "The nodes that are printed",
-               ("numbered_prints", printed()), ("prints", printed_variants(table)))
+               ("prints", printed(table)))
     write_list("visit/node_visits", "The nodes that are visited",
                ("unvisited", unvisited(table)), ("visitors", visited(table)))
     write_list("syntax/voids/node_blocks", "Where blocks are",

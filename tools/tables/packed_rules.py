@@ -6,9 +6,11 @@ Run it at the top of the repository, and then `rt fmt` in the crates that it wri
     tools/tables/packed_rules.py
 
 It reads crates/wgsl_model_packed/rules, and writes the definition of the rules, the table of them
-that the library prints by, and their numbers for the writer of the library and for the Rust crate.
+that the library prints by, and their numbers for the writer of the library and for the Rust crate,
+with the places of each for that.
 """
 import re
+import textwrap
 from pathlib import Path
 
 RULES = Path("crates/wgsl_model_packed/rules")
@@ -70,10 +72,23 @@ def constants(rules):
     return f"//! {BY}: their numbers.\n\n{lines}".rstrip("\n") + "\n"
 
 
+def binding(rules):
+    """The same for Rust, with the table of the places."""
+    places = " ".join(f'b"{re.sub("[^$#%]", "", text)}",' for _, text, _ in rules)
+    places = textwrap.fill(places, 99, initial_indent="    ", subsequent_indent="    ")
+    return f"""\
+{constants(rules).replace("pub const", "pub(super) const")}
+/// The places of each rule, by its number: `$` for another rule, `#` for a text, `%` for a span.
+pub(super) static PLACES: [&[u8]; {len(rules)}] = [
+{places}
+];
+"""
+
+
 def main():
     rules = read()
     written = {SPECS: definition(rules), TABLE: table(rules), NUMBERS: constants(rules),
-               BINDING: constants(rules).replace("pub const", "pub(super) const")}
+               BINDING: binding(rules)}
     for path, text in written.items():
         if path.parent.is_dir():
             path.write_text(text)

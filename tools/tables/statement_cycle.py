@@ -1,6 +1,5 @@
-"""The kinds of statements that contain one another, for tools/tables/statement_forms.py and
-tools/tables/statement_readers.py, with their lists and what may be left out, which have types of
-their own in plain trees."""
+"""The kinds of statements that contain one another, for tools/tables/statement_forms.py, with their
+lists and what may be left out, which have types of their own in plain trees."""
 from node_groups import in_cycle
 from node_specs import MODEL, stated
 from node_table import snake

@@ -76,15 +76,6 @@ def enum_body(kind):
 BODIES = {"words": word_body, "struct": struct_body, "enum": enum_body}
 
 
-def implementation(trait, name, shown_as, signature, body):
-    """An implementation of a trait for what has a text form."""
-    plain, view_text, code = shown_as
-    return "\n".join([
-        f"impl {trait} for {name} {{", f"ghost Plain = {{ {plain} }};",
-        f"ghost view = {{ {view_text} }};", f"ghost code = {{ {code} }};", "",
-        f"{signature} {{", body, "}", "}", ""])
-
-
 def is_bare(kind):
     """Whether a struct has its attributes alone."""
     return is_apart(kind) and len(kind.parts) == 1
@@ -107,8 +98,12 @@ def shown_node(name, alias):
 
 def written(name, shown_as, body):
     """What writes a kind."""
-    signature = "fn write_form<W: fmt::Write>(&self, f: &mut fmt::Formatter<W>) -> fmt::Result"
-    return implementation("Form", name, shown_as, signature, body)
+    plain, view_text, code = shown_as
+    return "\n".join([
+        f"impl Form for {name} {{", f"ghost Plain = {{ {plain} }};",
+        f"ghost view = {{ {view_text} }};", f"ghost code = {{ {code} }};", "",
+        "fn write_form<W: fmt::Write>(&self, f: &mut fmt::Formatter<W>) -> fmt::Result {", body,
+        "}", "}", ""])
 
 
 def writers(table, alias, names):
@@ -131,12 +126,12 @@ def ghost_uses(text):
             or f" {it} node" in text or f"{{ {it} }}" in text]
 
 
-def parts(table, crate, modules, made):
-    """What a function makes of the kinds of a file, what its clauses name, and its types."""
+def parts(table, crate, modules):
+    """What writes the kinds of a file, what its clauses name, and its types."""
     body, ghosts, types = [], [], []
     for plain, codes, names in modules:
         alias = f"plain_{snake(plain)}"
-        body += made(table, alias, names)
+        body += writers(table, alias, names)
         spanned = [f"{name}Node" for name in names if table.by_name[name].is_spanned]
         named = sorted(coded(it) for it in [*names, *spanned])
         ghosts += [f"{TREES}.{plain} as {alias}", f"{CODES}.{codes}.{{{', '.join(named)}}}"]
@@ -150,7 +145,7 @@ def parts(table, crate, modules, made):
 
 def file_text(table, what, crate, modules):
     """The text of a file."""
-    text, ghosts, types = parts(table, crate, modules, writers)
+    text, ghosts, types = parts(table, crate, modules)
     traits = [it for it in ("Form", "Formed") if f"{it} " in text or f"{it}(" in text]
     uses = ["crate::text::write_place"] * ("write_place" in text)
     uses += [f"crate::traits::{{{', '.join(traits)}}}", "std::fmt", "std::fmt::Write", types]

@@ -344,12 +344,6 @@ pub(crate) fn form_of(what: u32, text: &str) -> Result<String, Fault> {
     text_of(Call::Tree(what), text, text.len() * 32)
 }
 
-/// The printed text of the node of a kind that a form describes, unless allocation fails.
-#[cfg(test)]
-pub(crate) fn print_of(kind: u32, form: &str) -> Option<String> {
-    printed(Call::Print(kind), form.as_bytes(), form.len() / 4)
-}
-
 /// How many bytes a packed form has at most for a byte of its text: `!` has 26 of them.
 pub(crate) const PACKED: usize = 28;
 
@@ -364,14 +358,8 @@ pub(crate) fn packed_form_of(what: u32, text: &str) -> Result<Vec<u8>, Fault> {
 }
 
 /// The printed text of the node that a packed form describes, unless allocation fails.
-pub(crate) fn packed_print_of(form: &[u8]) -> Option<String> {
-    printed(Call::PrintPacked, form, form.len() / 2)
-}
-
-/// The text that a call prints of a form, unless allocation fails.
-fn printed(call: Call<'_>, form: &[u8], size: usize) -> Option<String> {
-    let (said, bytes) = written(call, form, size)?;
-    let text = utf8(bytes);
-    assert_ne!(said.status, REFUSED, "the form of a tree is read: {text}");
-    (said.status == DONE).then_some(text)
+pub(crate) fn print_of(form: &[u8]) -> Option<String> {
+    let (said, bytes) = written(Call::Print, form, form.len() / 2)?;
+    assert_ne!(said.status, REFUSED, "a packed form is printed");
+    (said.status == DONE).then(|| utf8(bytes))
 }

@@ -117,15 +117,6 @@ extern "C" {
         room_size: usize,
         answer: *mut Answer,
     ) -> u32;
-    #[cfg(test)]
-    fn wgsl_c_print(
-        what: u32,
-        form: *const u8,
-        size: usize,
-        room: *mut u8,
-        room_size: usize,
-        answer: *mut Answer,
-    ) -> u32;
     fn wgsl_c_packed_tree(
         what: u32,
         text: *const u8,
@@ -134,7 +125,7 @@ extern "C" {
         room_size: usize,
         answer: *mut Answer,
     ) -> u32;
-    fn wgsl_c_print_packed(
+    fn wgsl_c_print(
         form: *const u8,
         size: usize,
         room: *mut u8,
@@ -191,13 +182,10 @@ pub enum Call<'k> {
     Recognize,
     /// The text form of the tree with this number.
     Tree(u32),
-    /// The printed text of the form of a node of the kind with this number.
-    #[cfg(test)]
-    Print(u32),
     /// The packed form of the tree with this number.
     PackedTree(u32),
     /// The printed text of a packed form.
-    PrintPacked,
+    Print,
 }
 
 /// Makes a call, which writes into the buffer as far as its capacity. The buffer has what the call
@@ -223,12 +211,10 @@ pub fn bytes_call(call: Call<'_>, text: &[u8], room: &mut Vec<u8>) -> Said {
             Call::Check => wgsl_c_check(at, size, to, room_size, &mut answer),
             Call::Recognize => wgsl_c_recognize(at, size, to, room_size, &mut answer),
             Call::Tree(what) => wgsl_c_tree(what, at, size, to, room_size, &mut answer),
-            #[cfg(test)]
-            Call::Print(what) => wgsl_c_print(what, at, size, to, room_size, &mut answer),
             Call::PackedTree(what) => {
                 wgsl_c_packed_tree(what, at, size, to, room_size, &mut answer)
             }
-            Call::PrintPacked => wgsl_c_print_packed(at, size, to, room_size, &mut answer),
+            Call::Print => wgsl_c_print(at, size, to, room_size, &mut answer),
         }
     };
     if answer.size <= room_size {

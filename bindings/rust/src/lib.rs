@@ -74,7 +74,6 @@ const _: () = {
     is_shared::<Fault>();
     is_shared::<Token>();
     is_shared::<Minified>();
-    is_shared::<form::FormError>();
     is_shared::<syntax::TranslationUnit>();
     is_shared::<syntax::GlobalDirective>();
     is_shared::<syntax::GlobalDeclaration>();

@@ -3,8 +3,6 @@
 use crate::calls::answered;
 use crate::fault::Fault;
 use crate::ffi::Call;
-use crate::form::sealed::Written;
-use crate::form::{FormError, Reader};
 
 /// The names of a module that get new ones, besides those that always stay: the names of entry
 /// points, overrides and members, and those from outside of the module.
@@ -82,7 +80,7 @@ pub fn minify(text: &str, options: &MinifyOptions<'_>) -> Result<Minified, Fault
     let call = Call::Minify(options.names as u32, &keep);
     let (answer, mut text) = answered(call, text, text.len())?;
     let map = text.split_off(answer.start);
-    let names = read_names(&map).expect("the library writes the names as JSON");
+    let names = names_of(&map);
     Ok(Minified { text, names })
 }
 
@@ -93,18 +91,12 @@ fn lines_of(names: &[&str]) -> String {
     names.join("\n")
 }
 
-/// Reads names with their new names: the members of an object.
-fn read_names(map: &str) -> Result<Vec<(String, String)>, FormError> {
-    let mut names = Vec::new();
-    let mut map = Reader::new(map);
-    map.expect("{")?;
-    while !map.takes("}") {
-        if !names.is_empty() {
-            map.expect(",")?;
-        }
-        let name = String::read(&mut map)?;
-        map.expect(":")?;
-        names.push((name, String::read(&mut map)?));
-    }
-    Ok(names)
+/// The names with their new names that are the members of an object. No name has a character that
+/// is written after a `\`.
+fn names_of(map: &str) -> Vec<(String, String)> {
+    let texts: Vec<&str> = map.split('"').skip(1).step_by(2).collect();
+    let pairs = texts.chunks_exact(2);
+    pairs
+        .map(|it| (it[0].to_owned(), it[1].to_owned()))
+        .collect()
 }

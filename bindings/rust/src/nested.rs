@@ -10,7 +10,6 @@ mod drops;
 mod forms;
 mod parts;
 
-use crate::form::Kind;
 use crate::syntax::{Attribute, Expression, GlobalDeclaration, Statement, StructMember};
 use crate::visit::Accept;
 
@@ -31,9 +30,6 @@ pub enum Inner<'t> {
 
 /// A node that has a span.
 pub trait Nested: Coded + Accept + 'static {
-    /// Which kind it is, if it may nest.
-    const KIND: Option<Kind>;
-
     /// Returns this, if it is an expression or a statement.
     fn inner(&self) -> Option<Inner<'_>>;
 }
@@ -42,8 +38,6 @@ pub trait Nested: Coded + Accept + 'static {
 macro_rules! outer {
     ($($name:ident)*) => {$(
         impl Nested for $name {
-            const KIND: Option<Kind> = None;
-
             fn inner(&self) -> Option<Inner<'_>> {
                 None
             }
@@ -57,8 +51,6 @@ outer! { Attribute GlobalDeclaration StructMember }
 macro_rules! inner {
     ($($name:ident)*) => {$(
         impl Nested for $name {
-            const KIND: Option<Kind> = Some(Kind::$name);
-
             fn inner(&self) -> Option<Inner<'_>> {
                 Some(Inner::$name(self))
             }

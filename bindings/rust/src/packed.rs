@@ -14,40 +14,40 @@ mod rules;
 mod tests;
 mod writer;
 
+use crate::nested::Parts;
+use crate::span::Span;
+use crate::visit::Accept;
 #[cfg(test)]
 pub use made::{Made, Random};
-use reader::Reader;
+use reader::{Kind, Reader};
 pub use writer::{Packed, Writer};
 
 /// How many expressions and statements are read or written inside one another, so that neither
 /// takes more than a megabyte of stack, half of what a thread that std starts has by default: a
-/// level takes up to 10,000 bytes without optimization. What nests deeper is not read, and written
-/// afterwards.
+/// level takes up to 10,000 bytes without optimization. What nests deeper is left out, and read or
+/// written afterwards.
 const DEEPEST: usize = 100;
 
-/// Why no tree is read from a packed form.
-#[derive(Clone, Copy, Debug, PartialEq, Eq)]
-pub enum Unread {
-    /// It nests too deep.
-    TooDeep,
-    /// It is not the packed form of a tree.
-    Malformed,
-}
-
 /// A tree that is read from its packed form.
-pub trait Unpacked: Sized {
-    /// Reads it from the front of a form; returns nothing if it is not there, or nests too deep.
+pub trait Unpacked: Accept + Sized {
+    /// Reads it from the front of a form, without what nests very deep in it; returns nothing if it
+    /// is not there.
     fn unpack(from: &mut Reader<'_>) -> Option<Self>;
 }
 
-/// Reads the tree that a whole packed form is of.
-pub fn from_packed<T: Unpacked>(form: &[u8]) -> Result<T, Unread> {
+/// Reads the tree that a whole packed form is of, if it is one.
+pub fn from_packed<T: Unpacked>(form: &[u8]) -> Option<T> {
     let mut reader = Reader::new(form);
-    match T::unpack(&mut reader) {
-        Some(tree) if reader.is_at_end() => Ok(tree),
-        None if reader.is_too_deep() => Err(Unread::TooDeep),
-        _ => Err(Unread::Malformed),
+    let mut tree = reader.whole(Span::new(0..form.len()))?;
+    let mut parts = Parts::default();
+    while let Some(hole) = reader.hole(parts.count()) {
+        match hole.kind {
+            Kind::Expression => parts.push_expression(hole.span, reader.whole(hole.form)?),
+            Kind::Statement => parts.push_statement(hole.span, reader.whole(hole.form)?),
+        }
     }
+    parts.fill(&mut tree);
+    Some(tree)
 }
 
 /// Returns the packed form of a tree, in which each span is 0 to 0, since no print depends on it.

@@ -1,7 +1,7 @@
 //! Where a node is in its text.
 
 use crate::form::sealed::Written;
-use crate::form::{Form, FormError, Reader, Writer};
+use crate::form::{Form, Writer};
 use crate::nested::{copy, drop_node, feed, same, Nested};
 use std::fmt;
 use std::hash::{Hash, Hasher};
@@ -284,15 +284,6 @@ impl<T: Nested + Written> Written for Spanned<T> {
             None => self.node().write(out),
         }
         out.push('}');
-    }
-
-    fn read(from: &mut Reader<'_>) -> Result<Self, FormError> {
-        from.expect("{\"span\":")?;
-        let span = from.span()?;
-        from.expect(",\"node\":")?;
-        let spanned = from.node(span)?;
-        from.expect("}")?;
-        Ok(spanned)
     }
 }
 

@@ -58,9 +58,9 @@
 use crate::calls::packed_form_of;
 use crate::fault::Fault;
 use crate::form::sealed::{Numbered, Written};
-use crate::form::{from_form, text_form, FormError, FormErrorKind, Reader, Source, Writer};
+use crate::form::{Source, Writer};
 use crate::nested::{Code, Coded, Copies};
-use crate::packed::{from_packed, Unread};
+use crate::packed::from_packed;
 use crate::visit::{Accept, Visit, VisitMut, Walk};
 use std::str::FromStr;
 
@@ -127,21 +127,17 @@ pub type DeclarationStatement = Declaration;
 
 /// The tree that a text is.
 fn tree_of<T: Source>(text: &str) -> Result<T, Fault> {
-    match from_packed(&packed_form_of(T::NUMBER, text)?) {
-        Err(Unread::TooDeep) => deep_tree_of(text),
-        read => Ok(read.expect("the library writes the packed form of its trees")),
-    }
+    let form = packed_form_of(T::NUMBER, text)?;
+    Ok(from_packed(&form).expect("the library writes the packed form of its trees"))
 }
 
-/// The same of a tree that nests deep.
-fn deep_tree_of<T: Source>(text: &str) -> Result<T, Fault> {
-    let form = text_form::<T>(text)?;
-    Ok(from_form(&form).expect("the library writes the form of its trees"))
-}
-
-/// What is read from a text.
+/// What is read from a text, with its number in `wgsl.h`.
 macro_rules! sources {
-    ($($name:ident)*) => {$(
+    ($($name:ident = $number:literal,)*) => {$(
+        impl Numbered for $name {
+            const NUMBER: u32 = $number;
+        }
+
         impl Source for $name {}
 
         impl FromStr for $name {
@@ -154,4 +150,10 @@ macro_rules! sources {
     )*};
 }
 
-sources! { TranslationUnit GlobalDirective GlobalDeclaration Statement Expression }
+sources! {
+    TranslationUnit = 0,
+    GlobalDirective = 1,
+    GlobalDeclaration = 2,
+    Statement = 3,
+    Expression = 4,
+}

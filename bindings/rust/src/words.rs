@@ -1,7 +1,7 @@
 //! The values that are written as words of their own, and the operators.
 
 use crate::form::sealed::Written;
-use crate::form::{write_text, FormError, FormErrorKind, Reader, Writer};
+use crate::form::{write_text, Writer};
 use crate::nested::{Code, Coded, Copies};
 use std::error::Error;
 use std::fmt;
@@ -70,16 +70,6 @@ macro_rules! words {
         impl Written for $name {
             fn write<'t>(&'t self, out: &mut Writer<'t>) {
                 write_text(self.word(), &mut out.form);
-            }
-
-            fn read(from: &mut Reader<'_>) -> Result<Self, FormError> {
-                $(
-                    if from.takes(concat!("\"", $word, "\"")) {
-                        return Ok($name::$variant);
-                    }
-                )*
-                let expected = concat!("a word of `", stringify!($name), "`");
-                Err(from.error(FormErrorKind::Expected(expected)))
             }
         }
 

@@ -1,6 +1,6 @@
 //! Trees that nest deeply: made by hand and read from texts, with a small stack.
 
-use centrelilac::form::{from_form, to_form};
+use centrelilac::form::to_form;
 use centrelilac::span::equal_with_spans;
 use centrelilac::syntax::*;
 use std::collections::hash_map::DefaultHasher;
@@ -65,8 +65,7 @@ fn blocks(name: &str) -> Statement {
     })
 }
 
-/// Checks that a tree is copied, compared, hashed, written, read and dropped, and differs from
-/// another.
+/// Checks that a tree is copied, compared, hashed, written and dropped, and differs from another.
 fn check<T>(tree: T, other: T)
 where
     T: centrelilac::form::Form + Clone + Eq + Hash,
@@ -75,11 +74,8 @@ where
     assert!(copy == tree && equal_with_spans(&copy, &tree));
     assert!(tree != other && hash != hash_of(&other));
     assert_eq!(hash_of(&copy), hash);
-    let form = to_form(&tree);
-    let read: T = from_form(&form).expect("a form");
-    assert!(equal_with_spans(&read, &tree));
-    assert!(to_form(&copy) == form);
-    drop((tree, copy, read));
+    assert!(to_form(&copy) == to_form(&tree));
+    drop((tree, copy));
 }
 
 #[test]
@@ -118,27 +114,6 @@ fn spans_are_compared_where_they_are_asked_for() {
         }
         assert!(tree == other && hash_of(&tree) == hash_of(&other));
         assert!(!equal_with_spans(&tree, &other));
-    });
-}
-
-/// A deep form that does not end, or has something else deep inside, is rejected.
-#[test]
-fn other_deep_texts_are_no_form() {
-    with_stack(512, || {
-        let open = r#"{"Parenthesized":{"expression":{"span":[0,1],"node":"#;
-        let form = |inside: &str, close: &str| {
-            let (front, end) = (open.repeat(LEVELS), close.repeat(LEVELS));
-            from_form::<Expression>(&format!("{front}{inside}{end}"))
-        };
-        let name = r#"{"TypeOrIdentifier":{"ident":"{]\"","template_args":null}}"#;
-        assert!(form(name, "}}}").is_ok());
-        let place = |inside: &str, close: &str| form(inside, close).unwrap_err().place;
-        let front = LEVELS * open.len();
-        assert!(form(name, "}}").is_err() && form(name, "").is_err());
-        assert_eq!((place(name, "}}} ") - front - name.len()) % 4, 3);
-        assert_eq!(place(r#"{"TypeOrIdentifier":1}"#, "}}}"), front + 20);
-        assert_eq!(place("\"Void\"", "}}}"), front);
-        assert!(form("]", "}}}").is_err());
     });
 }
 

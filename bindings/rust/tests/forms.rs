@@ -1,93 +1,48 @@
-//! Texts that are the form of a tree, and texts that are not.
+//! The text forms of what nodes hold.
 
-use centrelilac::form::{from_form, to_form, FormError, FormErrorKind};
-use centrelilac::syntax::{ExpressionNode, LiteralExpression, Statement};
+use centrelilac::form::to_form;
+use centrelilac::span::Span;
+use centrelilac::syntax::{
+    Expression, ExpressionNode, LiteralExpression, Statement, TypeConstraint,
+};
 
-/// What is not the form of a tree is an error with its place.
+/// A variant without fields is its name, and an empty list has its brackets.
 #[test]
-fn other_texts_are_no_form() {
-    let lists = "[".repeat(100_000);
-    for text in [
-        "",
-        "{}",
-        "null",
-        r#"{"global_directives":[]}"#,
-        r#"{"Void":1}"#,
-        &lists,
-    ] {
-        let kind = FormErrorKind::Expected("a `Statement`");
-        let read = from_form::<Statement>(text);
-        assert_eq!(read, Err(FormError { kind, place: 0 }), "{text}");
-    }
-    assert_eq!(from_form(r#""Void""#), Ok(Statement::Void));
-    let error = from_form::<Statement>(r#""Void" "#).unwrap_err();
-    assert_eq!((error.kind, error.place), (FormErrorKind::Trailing, 6));
+fn short_nodes_have_a_form() {
+    assert_eq!(to_form(&Statement::Void), r#""Void""#);
+    let constraint = TypeConstraint::from(("T".into(), Vec::new()));
+    assert_eq!(to_form(&constraint), r#"{"ident":"T","variants":[]}"#);
 }
 
-/// Numbers are read as they are written alone, and only those that their place can hold.
 #[test]
-fn numbers_have_one_form() {
-    let kinds = |text: &str| from_form::<LiteralExpression>(text).map_err(|it| it.kind);
-    assert_eq!(kinds(r#"{"U32":0}"#), Ok(LiteralExpression::U32(0)));
-    assert_eq!(
-        kinds(r#"{"I32":-2147483648}"#),
-        Ok(LiteralExpression::I32(i32::MIN))
-    );
-    assert_eq!(
-        kinds(r#"{"AbstractInt":-9223372036854775808}"#),
-        Ok(LiteralExpression::AbstractInt(i64::MIN))
-    );
-    for (text, kind) in [
-        (r#"{"U32":}"#, FormErrorKind::Expected("a number")),
+fn numbers_have_a_form() {
+    for (number, form) in [
+        (LiteralExpression::U32(0), r#"{"U32":0}"#),
+        (LiteralExpression::U32(u32::MAX), r#"{"U32":4294967295}"#),
+        (LiteralExpression::I32(i32::MIN), r#"{"I32":-2147483648}"#),
         (
-            r#"{"U32":007}"#,
-            FormErrorKind::Expected("a number without leading zeros"),
+            LiteralExpression::AbstractInt(i64::MIN),
+            r#"{"AbstractInt":-9223372036854775808}"#,
         ),
-        (
-            r#"{"I32":-0}"#,
-            FormErrorKind::Expected("a number that is not 0 after `-`"),
-        ),
-        (r#"{"U32":-1}"#, FormErrorKind::OutOfRange),
-        (r#"{"U32":4294967296}"#, FormErrorKind::OutOfRange),
-        (r#"{"U32":18446744073709551617}"#, FormErrorKind::OutOfRange),
-        (r#"{"I32":-}"#, FormErrorKind::Expected("a number")),
-        (r#"{"U32":1 }"#, FormErrorKind::Expected("}")),
     ] {
-        assert_eq!(kinds(text), Err(kind), "{text}");
+        assert_eq!(to_form(&number), form);
     }
 }
 
-/// A span that starts after its end is an error.
 #[test]
-fn spans_are_in_order() {
-    let node = |span: &str| {
-        let text = format!(r#"{{"span":{span},"node":{{"Literal":{{"U32":4}}}}}}"#);
-        from_form::<ExpressionNode>(&text).map_err(|it| (it.kind, it.place))
-    };
-    assert!(node("[3,7]").is_ok());
-    assert!(node("[9999999999999999999,18446744073709551615]").is_ok());
-    assert_eq!(
-        node("[0,18446744073709551616]"),
-        Err((FormErrorKind::OutOfRange, 11))
-    );
-    assert_eq!(node("[7,3]"), Err((FormErrorKind::SpanOrder, 8)));
+fn spans_have_a_form() {
+    for (start, end) in [(3, 7), (0, usize::MAX), (7, 3)] {
+        let node = ExpressionNode::new(Expression::from(true), Span { start, end });
+        let form = to_form(&node);
+        let wanted = format!(r#"{{"span":[{start},{end}],"node":{{"Literal":{{"Bool":true}}}}}}"#);
+        assert_eq!(form, wanted);
+    }
 }
 
-/// Characters that are after a `\` in a form are read back.
+/// Characters that are no part of a text in quotes are after a `\\` in a form.
 #[test]
 fn texts_have_a_form() {
-    let text = "a\"b\\c\u{1}é".to_owned();
-    let form = to_form(&text);
-    assert_eq!(form, r#""a\"b\\c\u0001é""#);
-    assert_eq!(from_form(&form), Ok(text));
-    for wrong in [
-        r#""\u00""#,
-        r#""\u0061""#,
-        r#""\u001F""#,
-        r#""\n""#,
-        r#""a"#,
-        "\"\n\"",
-    ] {
-        assert!(from_form::<String>(wrong).is_err(), "{wrong}");
-    }
+    let text = "a\"b\\c\u{1}\n\u{1f}é".to_owned();
+    assert_eq!(to_form(&text), r#""a\"b\\c\u0001\u000a\u001fé""#);
+    assert_eq!(to_form(&String::new()), r#""""#);
 }

@@ -79,11 +79,3 @@ abbrev pub RefusesWithLines : (List ℕ → Fault → Type 0) → List ℕ → L
 RefusesWithLines IsNamed name text before buffer a = (e : Error) × IsNamed (chars text) (fault_view e)
     × StandsWithin e.span (length text)
     × TellsTexts (nul_terminated (error_lines name (chars text) e)) e before buffer a
-
--- the text is not the form of a node: the answer has the place where that shows and the kind 10,
--- and
--- the message is at the front of the buffer if it fits, and else the buffer stays as it was
-abbrev pub RefusesForm : List ℕ → List ℕ → Answer → Type 0
-RefusesForm before buffer a = (message : List ℕ) × (place : ℕ)
-    × (a ≡ record { size = length message; start = place; end = place; kind = 10; expected = 0 })
-    × ((take (length message) buffer ≡ message) ⊎ ((length before < length message) × (buffer ≡ before)))

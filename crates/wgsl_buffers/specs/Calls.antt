@@ -20,10 +20,9 @@ use Rattle.wgsl_read_nesting.specs.Nesting.{nesting}
 use Rattle.wgsl_buffers.specs.declared.answer.Answer.{Answer}
 use Rattle.wgsl_buffers.specs.declared.lists.Place.{Place}
 use Rattle.wgsl_buffers.specs.declared.tokens.PlacedKind.{PlacedKind}
-use Rattle.wgsl_buffers.specs.Answers.{counted, of_kind, Refuses, RefusesWithLines, Holds, Lacks, RefusesForm, IsNoText}
+use Rattle.wgsl_buffers.specs.Answers.{counted, of_kind, Refuses, RefusesWithLines, Holds, Lacks, IsNoText}
 use Rattle.wgsl_buffers.specs.Items.{count_of, counted_to, HoldItems, kind_and_place, token_items, start_and_end, ArePlaces}
 use Rattle.wgsl_buffers.specs.Comments.{AreTokensAndComments}
-use Rattle.wgsl_buffers.specs.Kinds.{IsNoForm, IsPrint, kind_of}
 use Rattle.wgsl_buffers.specs.Trees.{Tree, tree_of, IsFormOf, IsPackedOf}
 
 -- what each call promises: 2 only for bytes that are no text, and 3 with nothing in the answer
@@ -92,17 +91,6 @@ WritesTree = WritesForm IsFormOf
 -- the packed form
 abbrev pub WritesPackedTree : ℕ → List ℕ → List ℕ → List ℕ → Answer → ℕ → Type 0
 WritesPackedTree = WritesForm IsPackedOf
-
--- the printed text of the node of a kind that a form describes; 1 only for bytes that are no form of
--- a node of the kind that trees have
-pub record PrintsForm (what : ℕ) (form before buffer : List ℕ) (answer : Answer) (result : ℕ) : Type 0 where
-  pub printed : result ≡ 0 → (text : List ℕ) × IsPrint (kind_of what) form text × Holds text buffer answer
-  pub refused : result ≡ 1 → IsNoForm (kind_of what) form × RefusesForm before buffer answer
-  pub small : result ≡ 4 → (text : List ℕ) × IsPrint (kind_of what) form text × Lacks text before buffer answer
-  pub unknown : result ≡ 5 → (16 < what) × (answer ≡ counted 0)
-  pub known : 16 < what → (result ≡ 2) ⊎ (result ≡ 5)
-  pub status : result ≤ 5
-  pub reads : Reads form answer result
 
 -- a text that the rules print of a packed form, and no other
 abbrev pub IsPackedPrint : List ℕ → List ℕ → Type 0

@@ -6,4 +6,3 @@ pub mod Layouts
 pub mod Trees
 pub mod Calls
 pub mod Minified
-pub mod PrintedTrees

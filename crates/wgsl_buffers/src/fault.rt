@@ -3,15 +3,13 @@
 ghost use Rattle.std.specs.Prelude.{◌≡◌, ◌⊎◌, ◌++◌, IfOk, OnOk, map, flat_map, string_bytes};
 ghost use Rattle.wgsl_error.specs.View.{kind_number, expected_texts};
 ghost use Rattle.wgsl_error.specs.declared.ErrorKind.TheVariants as kinds;
-ghost use Rattle.wgsl_form_reader.specs.declared.error.FormErrorKind.TheVariants as reasons;
-ghost use Rattle.wgsl_buffers.specs.Answers.{counted, nul_terminated, of_kind, fault_texts, RefusesForm, TellsError, TellsTexts};
+ghost use Rattle.wgsl_buffers.specs.Answers.{counted, nul_terminated, of_kind, fault_texts, TellsError, TellsTexts};
 
 use crate::answer::{Answer, REFUSED, give, refuse_memory};
 use std::alloc::{AllocError, Global};
 use wgsl_error::{Error, ErrorKind};
-use wgsl_form_reader::{FormError, FormErrorKind};
 
-/// The number of the kind of an error of a text form.
+/// The number of the kind of bytes that are not a packed form.
 const NOT_A_FORM: usize = 10;
 
 /// The number of a kind.
@@ -93,36 +91,6 @@ pub fn tell_error(alloc: Global, error: Error, buffer: &mut [u8], answer: &mut A
         return refuse_memory(answer);
     };
     tell_texts(&error, texts.as_str(), buffer, answer)
-}
-
-/// Reports an error of a text form, and returns the status.
-pub fn tell_form_error(
-    alloc: Global,
-    error: FormError,
-    buffer: &mut [u8],
-    answer: &mut Answer,
-) -> u32
-    ensures refused { result ≡ 1 → RefusesForm buffer.old buffer.new answer.new }
-    ensures named { result ≡ 1 → ¬ (error.kind ≡ reasons.OutOfMemory) }
-    ensures memory { result ≡ 3 → answer.new ≡ counted 0 }
-    ensures status { (result ≡ 1) ⊎ (result ≡ 3) }
-{
-    if matches!(error.kind, FormErrorKind::OutOfMemory) {
-        return refuse_memory(answer);
-    }
-    let kind = error.kind;
-    let Ok(message) = format!(in alloc; "{kind}\0") else {
-        return refuse_memory(answer);
-    };
-    *answer = Answer {
-        size: message.len(),
-        start: error.place,
-        end: error.place,
-        kind: NOT_A_FORM,
-        expected: 0,
-    };
-    give(message.as_bytes(), buffer);
-    REFUSED
 }
 
 /// Reports that bytes are not a packed form, and returns the status.

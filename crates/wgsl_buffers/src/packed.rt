@@ -9,7 +9,7 @@ use crate::fault::{refuse_packed, tell_error};
 use std::alloc::Global;
 use wgsl_error::Error;
 use wgsl_parser::FromSource;
-use wgsl_print_packed::PackedError;
+use wgsl_print_packed::{PackedError, print_packed};
 use wgsl_tree_expression::Expression;
 use wgsl_tree_packed::{packed_form, packed_module};
 use wgsl_tree_statement::Statement;
@@ -99,10 +99,10 @@ pub fn write_packed_tree(
 }
 
 /// Writes the printed text of the node that has a packed form.
-pub fn print_packed(alloc: Global, form: &[u8], buffer: &mut [u8], answer: &mut Answer) -> u32
+pub fn print(alloc: Global, form: &[u8], buffer: &mut [u8], answer: &mut Answer) -> u32
     ensures { PrintsPacked form.now buffer.old buffer.new answer.new result }
 {
-    match wgsl_print_packed::print_packed(alloc, form) {
+    match print_packed(alloc, form) {
         Ok(text) => tell_bytes(&text, buffer, answer),
         Err(PackedError::OutOfMemory) => refuse_memory(answer),
         Err(PackedError::NotPacked) => refuse_packed(answer),

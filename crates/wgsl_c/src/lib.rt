@@ -3,7 +3,7 @@
 //! what a caller owes.
 #![tactic(auto)]
 
-ghost use Rattle.wgsl_buffers.specs.Calls.{Formats, Tidies, Checks, WritesSnippet, Recognizes, WritesTree, WritesPackedTree, PrintsForm, PrintsPacked, WritesTokens, WritesTokensWithComments, WritesLists, FindsList, MeasuresNesting};
+ghost use Rattle.wgsl_buffers.specs.Calls.{Formats, Tidies, Checks, WritesSnippet, Recognizes, WritesTree, WritesPackedTree, PrintsPacked, WritesTokens, WritesTokensWithComments, WritesLists, FindsList, MeasuresNesting};
 ghost use Rattle.wgsl_buffers.specs.Layouts.{layout_of};
 ghost use Rattle.wgsl_buffers.specs.Minified.{Minifies};
 
@@ -110,24 +110,6 @@ pub extern "C" fn wgsl_c_tree(
     wgsl_buffers::write_tree(alloc, what, text, buffer, answer)
 }
 
-/// Writes the printed text of the node that a form describes: 0 asks for a module, 1 for a
-/// directive, 2 for a declaration, 3 for a statement, 4 for an expression, 5 for an attribute, 6
-/// for a member of a structure, 7 for a parameter, 8 for the kind of a declaration, 9 for a
-/// selector, 10 to 13 for a clause of `if`, `else if`, `else` and `switch`, 14 for `continuing`, 15
-/// for `break if` and 16 for `@type`.
-#[unsafe(no_mangle)]
-pub extern "C" fn wgsl_c_print(
-    alloc: Global,
-    what: u32,
-    form: &[u8],
-    buffer: &mut [u8],
-    answer: &mut Answer,
-) -> u32
-    ensures { PrintsForm what form.now buffer.old buffer.new answer.new result }
-{
-    wgsl_buffers::print_form(alloc, what, form, buffer, answer)
-}
-
 /// Writes the tree that a text is, by its packed form: 0 asks for a module, 1 for a directive, 2
 /// for a declaration, 3 for a statement, 4 for an expression.
 #[unsafe(no_mangle)]
@@ -145,7 +127,7 @@ pub extern "C" fn wgsl_c_packed_tree(
 
 /// Writes the printed text of the node that has a packed form.
 #[unsafe(no_mangle)]
-pub extern "C" fn wgsl_c_print_packed(
+pub extern "C" fn wgsl_c_print(
     alloc: Global,
     form: &[u8],
     buffer: &mut [u8],
@@ -153,7 +135,7 @@ pub extern "C" fn wgsl_c_print_packed(
 ) -> u32
     ensures { PrintsPacked form.now buffer.old buffer.new answer.new result }
 {
-    wgsl_buffers::print_packed(alloc, form, buffer, answer)
+    wgsl_buffers::print(alloc, form, buffer, answer)
 }
 
 /// Writes the tokens of a text, as many as fit.

@@ -3,14 +3,17 @@
 use std::alloc::{AllocError, Global};
 use std::fmt;
 use wgsl_error::{Error, ErrorKind};
-use wgsl_form_trees::FromForm;
 use wgsl_parser::{FromSource, parse_str};
 use wgsl_span::Span;
-use wgsl_tree_attribute::Attribute;
+use wgsl_tree_attribute::{Attribute, AttributeNode};
 use wgsl_tree_expression::Expression;
 use wgsl_tree_form::{Form, write_form};
+use wgsl_tree_packed::{packed_form, packed_module};
 use wgsl_tree_statement::Statement;
 use wgsl_tree_unit::{GlobalDeclaration, GlobalDirective, TranslationUnit};
+
+/// How many bytes a span has, which is before an attribute in its packed form.
+const SPAN: usize = 16;
 
 /// What makes a module of a tree's text, and what the module's print has around the tree's print
 /// and before each of its lines.
@@ -24,7 +27,7 @@ pub struct Around {
 }
 
 /// A tree that is read by itself.
-pub trait Tree: Form + FromForm + fmt::Display + PartialEq + Drop {
+pub trait Tree: Form + fmt::Display + PartialEq + Drop {
     /// Reads the tree that a text is.
     fn read(alloc: Global, text: &str) -> Result<Self, Error>;
 
@@ -33,6 +36,9 @@ pub trait Tree: Form + FromForm + fmt::Display + PartialEq + Drop {
 
     /// Returns the tree in a module of its text.
     fn in_module(unit: &TranslationUnit) -> Option<&Self>;
+
+    /// Returns its packed form.
+    fn packed(&self, alloc: Global) -> Result<Vec<u8>, AllocError>;
 
     /// Removes the empty items of its lists.
     fn clear(&mut self) {}
@@ -65,6 +71,10 @@ impl Tree for TranslationUnit {
         Some(unit)
     }
 
+    fn packed(&self, alloc: Global) -> Result<Vec<u8>, AllocError> {
+        packed_module(alloc, self.clone(alloc)?, 0)
+    }
+
     fn clear(&mut self) {
         self.remove_voids();
     }
@@ -88,6 +98,10 @@ impl Tree for GlobalDirective {
     fn in_module(unit: &TranslationUnit) -> Option<&Self> {
         unit.global_directives.first()
     }
+
+    fn packed(&self, alloc: Global) -> Result<Vec<u8>, AllocError> {
+        packed_form(alloc, self, 0)
+    }
 }
 
 impl Tree for GlobalDeclaration {
@@ -107,6 +121,10 @@ impl Tree for GlobalDeclaration {
 
     fn in_module(unit: &TranslationUnit) -> Option<&Self> {
         declaration_of(unit)
+    }
+
+    fn packed(&self, alloc: Global) -> Result<Vec<u8>, AllocError> {
+        packed_form(alloc, self, 0)
     }
 
     fn clear(&mut self) {
@@ -138,6 +156,10 @@ impl Tree for Statement {
         }
     }
 
+    fn packed(&self, alloc: Global) -> Result<Vec<u8>, AllocError> {
+        packed_form(alloc, self, 0)
+    }
+
     fn clear(&mut self) {
         self.remove_voids();
     }
@@ -163,6 +185,10 @@ impl Tree for Expression {
             GlobalDeclaration::ConstAssert(assertion) => Some(assertion.expression.node()),
             _ => None,
         }
+    }
+
+    fn packed(&self, alloc: Global) -> Result<Vec<u8>, AllocError> {
+        packed_form(alloc, self, 0)
     }
 }
 
@@ -194,5 +220,11 @@ impl Tree for Attribute {
             GlobalDeclaration::Function(function) => Some(function.attributes.first()?.node()),
             _ => None,
         }
+    }
+
+    fn packed(&self, alloc: Global) -> Result<Vec<u8>, AllocError> {
+        let node = AttributeNode::new(alloc, self.clone(alloc)?, Span::new(0..0))?;
+        let form = packed_form(alloc, &node, 0)?;
+        Vec::from_slice(alloc, form.get(SPAN..).unwrap_or(&form))
     }
 }

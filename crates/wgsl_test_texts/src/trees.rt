@@ -5,8 +5,8 @@ use crate::faults::see_fault;
 use crate::kinds::{Tree, form_of};
 use crate::parts::see_parts;
 use std::alloc::{AllocError, Global};
-use wgsl_form_trees::from_form;
 use wgsl_parser::parse_str;
+use wgsl_print_packed::print_packed;
 
 /// Sees the tree of a text, or what is wrong with the text.
 pub fn see_tree<T: Tree>(text: &str, facts: &mut Facts<'_>) -> Result<(), AllocError> {
@@ -57,27 +57,20 @@ fn see_again<T: Tree>(
     facts.expect(kept.as_str() == printed, "the print is printed as it is")
 }
 
-/// Returns the print of the tree of a text. That of its form, and that in a module, are the same.
+/// Returns the print of the tree of a text. That of its packed form, and that in a module, are the
+/// same.
 pub fn see_printed<T: Tree>(
     tree: &T,
     text: &str,
     facts: &mut Facts<'_>,
 ) -> Result<String, AllocError> {
     let printed = tree.to_string(facts.alloc)?;
-    let is_same = is_same_by_form(facts.alloc, tree, &printed)?;
-    facts.expect(is_same, "the form of a tree is read as the tree")?;
+    let form = tree.packed(facts.alloc)?;
+    let by_form = print_packed(facts.alloc, &form);
+    let is_same = by_form.is_ok_and(|text| text.as_slice() == printed.as_bytes());
+    facts.expect(is_same, "the packed form of a tree prints as the tree does")?;
     see_in_module::<T>(text, &printed, facts)?;
     Ok(printed)
-}
-
-/// Whether the form of a tree is read as the tree.
-fn is_same_by_form<T: Tree>(alloc: Global, tree: &T, printed: &str) -> Result<bool, AllocError> {
-    let form = form_of(alloc, tree)?;
-    let Ok(again) = from_form::<T>(alloc, &form) else {
-        return Ok(false);
-    };
-    let is_alike = again.to_string(alloc)?.as_str() == printed && again == *tree;
-    Ok(is_alike && form_of(alloc, &again)? == form)
 }
 
 /// Sees that the tree of a text is the same in a module around the text, and printed as it is,

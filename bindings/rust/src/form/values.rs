@@ -1,21 +1,13 @@
 //! The forms of what the fields of nodes hold: numbers, texts, lists, and what may be left out.
 
 use super::sealed::Written;
-use super::{FormError, FormErrorKind, Reader, Writer};
+use super::Writer;
 use crate::syntax::Ident;
 use std::fmt::Write;
 
 impl Written for bool {
     fn write<'t>(&'t self, out: &mut Writer<'t>) {
         out.push_str(if *self { "true" } else { "false" });
-    }
-
-    fn read(from: &mut Reader<'_>) -> Result<Self, FormError> {
-        if from.takes("true") {
-            return Ok(true);
-        }
-        from.expect("false")?;
-        Ok(false)
     }
 }
 
@@ -25,10 +17,6 @@ macro_rules! numbers {
         impl Written for $number {
             fn write<'t>(&'t self, out: &mut Writer<'t>) {
                 let _ = write!(out.form, "{self}");
-            }
-
-            fn read(from: &mut Reader<'_>) -> Result<Self, FormError> {
-                from.number()
             }
         }
     )*};
@@ -66,38 +54,12 @@ impl Written for String {
     fn write<'t>(&'t self, out: &mut Writer<'t>) {
         write_text(self, &mut out.form);
     }
-
-    fn read(from: &mut Reader<'_>) -> Result<Self, FormError> {
-        from.expect("\"")?;
-        let text = from.plain_text();
-        if from.takes("\"") {
-            return Ok(text.to_owned());
-        }
-        read_escapes(text.to_owned(), from)
-    }
 }
 
 impl Written for Ident {
     fn write<'t>(&'t self, out: &mut Writer<'t>) {
         write_text(self.name(), &mut out.form);
     }
-
-    fn read(from: &mut Reader<'_>) -> Result<Self, FormError> {
-        String::read(from).map(Ident::new)
-    }
-}
-
-/// Reads the rest of a text of which a front is read, and which has a `\` next, or no end.
-#[cold]
-fn read_escapes(mut text: String, from: &mut Reader<'_>) -> Result<String, FormError> {
-    while from.takes("\\") {
-        text.push(from.escaped()?);
-        text.push_str(from.plain_text());
-    }
-    if from.takes("\"") {
-        return Ok(text);
-    }
-    Err(from.error(FormErrorKind::Expected("the end of the text")))
 }
 
 impl<T: Written> Written for Option<T> {
@@ -106,13 +68,6 @@ impl<T: Written> Written for Option<T> {
             None => out.push_str("null"),
             Some(value) => value.write(out),
         }
-    }
-
-    fn read(from: &mut Reader<'_>) -> Result<Self, FormError> {
-        if from.takes("null") {
-            return Ok(None);
-        }
-        Ok(Some(T::read(from)?))
     }
 }
 
@@ -127,21 +82,6 @@ impl<T: Written> Written for Vec<T> {
         }
         out.push(']');
     }
-
-    fn read(from: &mut Reader<'_>) -> Result<Self, FormError> {
-        from.expect("[")?;
-        let mut items = Vec::new();
-        if from.takes("]") {
-            return Ok(items);
-        }
-        loop {
-            items.push(T::read(from)?);
-            if from.takes("]") {
-                return Ok(items);
-            }
-            from.expect(",")?;
-        }
-    }
 }
 
 impl<A: Written, B: Written> Written for (A, B) {
@@ -151,14 +91,5 @@ impl<A: Written, B: Written> Written for (A, B) {
         out.push(',');
         self.1.write(out);
         out.push(']');
-    }
-
-    fn read(from: &mut Reader<'_>) -> Result<Self, FormError> {
-        from.expect("[")?;
-        let first = A::read(from)?;
-        from.expect(",")?;
-        let second = B::read(from)?;
-        from.expect("]")?;
-        Ok((first, second))
     }
 }

@@ -56,14 +56,27 @@ impl Parts {
 }
 
 impl VisitMut for Parts {
-    fn visit_expression_node_mut(&mut self, node: &mut ExpressionNode) {
-        match node.hole_number() {
-            None => node.walk_mut(self),
-            Some(number) => {
+    /// Takes no more stack where more is on the left.
+    fn visit_expression_node_mut(&mut self, mut node: &mut ExpressionNode) {
+        loop {
+            if let Some(number) = node.hole_number() {
                 if let Some((span, Part::Expression(expression))) = self.take(number) {
                     *node = Spanned::new(expression, span);
                 }
+                return;
             }
+            node = match node.node_mut() {
+                Expression::NamedComponent(component) => &mut component.base,
+                Expression::Indexing(element) => {
+                    self.visit_expression_node_mut(&mut element.index);
+                    &mut element.base
+                }
+                Expression::Binary(operation) => {
+                    self.visit_expression_node_mut(&mut operation.right);
+                    &mut operation.left
+                }
+                other => return other.walk_mut(self),
+            };
         }
     }
 

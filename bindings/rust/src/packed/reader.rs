@@ -2,43 +2,56 @@
 
 mod attributes;
 mod expressions;
+mod holes;
 mod statements;
 mod units;
 
 use super::rules::*;
-use super::DEEPEST;
+use super::{Unpacked, DEEPEST};
 use crate::span::Span;
 use crate::syntax::Ident;
+use holes::Hole;
+pub use holes::Kind;
 
-/// A packed form of which a front is read.
+/// A packed form of which a front is read, and what is left out of the tree that is read.
 #[derive(Debug)]
 pub struct Reader<'t> {
+    form: &'t [u8],
     /// What is not read yet.
     left: &'t [u8],
+    /// Where that ends in the form.
+    end: usize,
     /// How many expressions and statements are open.
     depth: usize,
-    /// Whether one of them nests too deep.
-    is_too_deep: bool,
+    /// Where the nodes are that may be left out, as far as that is known.
+    nodes: Vec<Span>,
+    holes: Vec<Hole>,
 }
 
 impl<'t> Reader<'t> {
     /// Returns a reader of a form of which nothing is read yet.
     pub fn new(form: &'t [u8]) -> Self {
         Reader {
+            form,
             left: form,
+            end: form.len(),
             depth: 0,
-            is_too_deep: false,
+            nodes: Vec::new(),
+            holes: Vec::new(),
         }
     }
 
-    /// Returns whether the whole form is read.
-    pub fn is_at_end(&self) -> bool {
-        self.left.is_empty()
+    /// Reads the tree that a whole part of the form is of.
+    pub fn whole<T: Unpacked>(&mut self, part: Span) -> Option<T> {
+        self.left = self.form.get(part.range())?;
+        (self.end, self.depth) = (part.end, 0);
+        let tree = T::unpack(self)?;
+        self.left.is_empty().then_some(tree)
     }
 
-    /// Returns whether something nests too deep, so that it was not read.
-    pub fn is_too_deep(&self) -> bool {
-        self.is_too_deep
+    /// Returns where in the form the next byte is.
+    fn place(&self) -> usize {
+        self.end - self.left.len()
     }
 
     /// Takes the number of a rule.
@@ -104,23 +117,6 @@ impl<'t> Reader<'t> {
     /// Takes a text that is a word of an enum.
     fn word<T: std::str::FromStr>(&mut self) -> Option<T> {
         self.text()?.parse().ok()
-    }
-
-    /// Opens an expression or a statement, unless too many are open.
-    #[inline]
-    fn open(&mut self) -> Option<()> {
-        if self.depth == DEEPEST {
-            self.is_too_deep = true;
-            return None;
-        }
-        self.depth += 1;
-        Some(())
-    }
-
-    /// Closes what was opened last.
-    #[inline]
-    fn close(&mut self) {
-        self.depth -= 1;
     }
 
     /// Reads items, each after the number of a rule: one for the last, one for those before it,

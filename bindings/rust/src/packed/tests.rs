@@ -1,11 +1,13 @@
-//! That packed forms are of the trees that the library reads, and print as the library prints.
+//! That packed forms are those of the library, are read as the trees that it reads, and print as
+//! their rules say.
 
 use super::machine::print_of;
-use super::{from_packed, to_packed, Made, Packed, Random, Unpacked, Unread, Writer, DEEPEST};
+use super::rules::{I32, INT, U32, UNIT};
+use super::{from_packed, to_packed, Made, Packed, Random, Unpacked, Writer, DEEPEST};
 use crate::calls;
 use crate::form::sealed::Numbered;
-use crate::form::{text_form, to_form, Source};
-use crate::span::equal_with_spans;
+use crate::form::{text_form, to_form, Form, Source};
+use crate::span::{equal_with_spans, Span, Spanned};
 use crate::syntax::*;
 use std::path::Path;
 
@@ -25,34 +27,33 @@ fn with_spans<T: Packed>(tree: &T) -> Vec<u8> {
     form.finish()
 }
 
-/// Returns what the library prints of the JSON of a tree.
-fn json_print<T: crate::form::Form + Numbered>(tree: &T) -> String {
-    calls::print_of(T::NUMBER, &to_form(tree)).expect("memory")
-}
-
-/// Checks that the packed form of a tree prints as the library prints the tree.
-fn check_print<T: crate::form::Form + Numbered + Packed>(tree: &T) {
-    let printed = json_print(tree);
+/// Checks that the library prints the packed form of a tree as its rules say.
+fn check_print<T: Packed>(tree: &T) {
+    let printed = calls::print_of(&to_packed(tree)).expect("memory");
     for form in [to_packed(tree), with_spans(tree)] {
         assert_eq!(print_of(&form).as_deref(), Some(&*printed));
     }
 }
 
-/// Checks that a tree is read from its packed form, and how that prints.
-fn check<T: Source + Packed + Unpacked>(tree: &T) {
+/// Checks that a tree is read from its packed form.
+fn check_read<T: Form + Packed + Unpacked>(tree: &T) {
     let read: T = from_packed(&with_spans(tree)).expect("the packed form of a tree");
     assert!(equal_with_spans(&read, tree), "{}", to_form(tree));
+}
+
+/// Checks that a tree is read from its packed form, and how that prints.
+fn check<T: Form + Packed + Unpacked>(tree: &T) {
+    check_read(tree);
     check_print(tree);
 }
 
-/// Checks the tree of a text, if it is one.
-fn check_text<T: Source + Packed + Unpacked>(text: &str) -> bool {
-    let form = text_form::<T>(text);
-    let tree = form.map(|form| crate::form::from_form::<T>(&form));
-    tree.is_ok_and(|tree| {
-        check(&tree.expect("the form of a tree"));
-        true
-    })
+/// Checks the tree of a text: that its JSON and its packed form are those that the library writes.
+fn check_text<T: Source + Packed>(text: &str) {
+    let packed = calls::packed_form_of(T::NUMBER, text).expect(text);
+    let tree: T = from_packed(&packed).expect(text);
+    assert_eq!(text_form::<T>(text), Ok(to_form(&tree)));
+    assert!(with_spans(&tree) == packed, "{text}");
+    check(&tree);
 }
 
 /// Returns the texts of the shaders in a folder.
@@ -71,7 +72,7 @@ fn trees_of_shaders_have_packed_forms() {
     let folders = ["tests", "../../examples", "../../examples/printed"];
     let mut count = 0;
     for text in folders.iter().flat_map(|folder| shaders(folder)) {
-        assert!(check_text::<TranslationUnit>(&text), "{text}");
+        check_text::<TranslationUnit>(&text);
         count += 1;
     }
     assert!(count > 5, "only {count} shaders were read");
@@ -168,12 +169,10 @@ fn other_bytes_are_no_packed_forms() {
         let tree = TranslationUnit::made(&mut Random::new(seed, LEVELS));
         let mut form = with_spans(&tree);
         for size in 0..form.len() {
-            let read = from_packed::<TranslationUnit>(&form[..size]);
-            assert_eq!(read, Err(Unread::Malformed));
+            assert_eq!(from_packed::<TranslationUnit>(&form[..size]), None);
         }
         form.push(0);
-        let read = from_packed::<TranslationUnit>(&form);
-        assert_eq!(read, Err(Unread::Malformed));
+        assert_eq!(from_packed::<TranslationUnit>(&form), None);
         form.pop();
         let mut random = Random::new(seed, 0);
         for _ in 0..100 {
@@ -185,15 +184,53 @@ fn other_bytes_are_no_packed_forms() {
     }
 }
 
+/// Numbers are read only where their place can hold them.
+#[test]
+fn numbers_fit_their_places() {
+    let read = |rule: u8, digits: &str| {
+        let size = (digits.len() as u64).to_le_bytes();
+        from_packed::<Expression>(&[&[rule], &size[..], digits.as_bytes()].concat())
+    };
+    for (rule, digits, number) in [
+        (U32, "0", LiteralExpression::U32(0)),
+        (U32, "4294967295", LiteralExpression::U32(u32::MAX)),
+        (I32, "-2147483648", LiteralExpression::I32(i32::MIN)),
+        (
+            INT,
+            "-9223372036854775808",
+            LiteralExpression::AbstractInt(i64::MIN),
+        ),
+    ] {
+        assert_eq!(read(rule, digits), Some(number.into()));
+    }
+    for (rule, digits) in [
+        (U32, "4294967296"),
+        (U32, "18446744073709551617"),
+        (U32, "-1"),
+        (U32, "1 "),
+        (I32, "2147483648"),
+        (I32, "-"),
+        (INT, "9223372036854775808"),
+        (INT, "0x1"),
+    ] {
+        assert_eq!(read(rule, digits), None, "{digits}");
+    }
+}
+
+/// Returns a node with a span of its own.
+fn at<T>(level: usize, node: T) -> Spanned<T> {
+    Spanned::new(node, Span::new(level..2 * level + 1))
+}
+
 /// Returns a `return` of a name in so many blocks.
 fn blocks(levels: usize) -> Statement {
     let name = Expression::from(Ident::from("a"));
     let innermost = Statement::from(ReturnStatement::from(name));
-    (0..levels).fold(innermost, |inside, _| {
+    (0..levels).fold(innermost, |inside, level| {
         let expression = Expression::from(true).into();
         let body = CompoundStatement {
             attributes: Vec::new(),
-            statements: vec![inside.into()],
+            statements: vec![at(level, inside)],
         };
         Statement::from(IfStatement {
             attributes: Vec::new(),
@@ -207,10 +244,10 @@ fn blocks(levels: usize) -> Statement {
 /// Returns so many sums, each the right operand of another.
 fn sums(levels: usize) -> Expression {
     let name = || Expression::from(Ident::from("a"));
-    (0..levels).fold(name(), |inside, _| {
+    (0..levels).fold(name(), |inside, level| {
         Expression::from(BinaryExpression {
             operator: BinaryOperator::Addition,
-            right: inside.into(),
+            right: at(level, inside),
             left: name().into(),
         })
     })
@@ -218,10 +255,10 @@ fn sums(levels: usize) -> Expression {
 
 /// Returns so many loops, each after the turns of another.
 fn loops(levels: usize) -> Statement {
-    (0..levels).fold(Statement::Void, |inside, _| {
+    (0..levels).fold(Statement::Void, |inside, level| {
         let body = CompoundStatement {
             attributes: Vec::new(),
-            statements: vec![inside.into()],
+            statements: vec![at(level, inside)],
         };
         let continuing = ContinuingStatement {
             attributes: Vec::new(),
@@ -238,10 +275,10 @@ fn loops(levels: usize) -> Statement {
 
 /// Returns an empty statement in so many clauses of `switch`.
 fn switches(levels: usize) -> Statement {
-    (0..levels).fold(Statement::Void, |inside, _| {
+    (0..levels).fold(Statement::Void, |inside, level| {
         let body = CompoundStatement {
             attributes: Vec::new(),
-            statements: vec![inside.into()],
+            statements: vec![at(level, inside)],
         };
         let clause = SwitchClause {
             attributes: Vec::new(),
@@ -260,10 +297,10 @@ fn switches(levels: usize) -> Statement {
 /// Returns a name as the argument of so many calls.
 fn calls(levels: usize) -> Expression {
     let name = || Ident::from("a");
-    (0..levels).fold(Expression::from(name()), |inside, _| {
+    (0..levels).fold(Expression::from(name()), |inside, level| {
         Expression::from(FunctionCall {
             ty: name().into(),
-            arguments: vec![inside.into()],
+            arguments: vec![at(level, inside)],
         })
     })
 }
@@ -271,9 +308,9 @@ fn calls(levels: usize) -> Expression {
 /// Returns a name in so many template lists.
 fn templates(levels: usize) -> Expression {
     let name = || Ident::from("a");
-    (0..levels).fold(Expression::from(name()), |inside, _| {
+    (0..levels).fold(Expression::from(name()), |inside, level| {
         let argument = TemplateArg {
-            expression: inside.into(),
+            expression: at(level, inside),
         };
         Expression::from(TypeExpression {
             ident: name(),
@@ -282,25 +319,41 @@ fn templates(levels: usize) -> Expression {
     })
 }
 
+/// Returns a long chain after so many sums, each the right operand of another.
+fn chains(levels: usize) -> Expression {
+    let link = |base, level| {
+        let (component, base) = (Ident::from("b"), at(level, base));
+        Expression::from(NamedComponentExpression { component, base })
+    };
+    (0..levels).fold(sums(levels), link)
+}
+
 /// Runs a test with so many kilobytes of stack.
 fn with_stack(kilobytes: usize, test: fn()) {
     let thread = std::thread::Builder::new().stack_size(kilobytes << 10);
     thread.spawn(test).expect("a thread").join().expect("holds");
 }
 
-/// Checks that a tree is read from its packed form if it has the most levels, and not if it has
-/// more.
-fn check_levels<T: Packed + Unpacked + PartialEq>(tree: impl Fn(usize) -> T) {
-    let deepest = tree(DEEPEST);
-    assert!(from_packed(&to_packed(&deepest)) == Ok(deepest));
-    for levels in [DEEPEST + 1, 10 * DEEPEST] {
-        let form = to_packed(&tree(levels));
-        assert!(from_packed::<T>(&form) == Err(Unread::TooDeep));
+/// How many levels the deepest trees have.
+const LEVELS_OF_DEEPEST: usize = 100_000;
+
+/// Checks that trees of many levels are read from their packed forms, and how those print that are
+/// not too long.
+fn check_levels<T: Form + Packed + Unpacked>(tree: impl Fn(usize) -> T) {
+    for levels in [
+        DEEPEST,
+        DEEPEST + 1,
+        2 * DEEPEST,
+        2 * DEEPEST + 1,
+        5 * DEEPEST,
+    ] {
+        check(&tree(levels));
     }
+    check_read(&tree(LEVELS_OF_DEEPEST));
 }
 
 #[test]
-fn trees_that_nest_too_deep_are_not_read() {
+fn trees_of_any_depth_are_read_and_written() {
     with_stack(STACK, || {
         check_levels(blocks);
         check_levels(loops);
@@ -308,27 +361,27 @@ fn trees_that_nest_too_deep_are_not_read() {
         check_levels(sums);
         check_levels(calls);
         check_levels(templates);
+        check_levels(chains);
     });
 }
 
-/// How many kilobytes of stack the library takes at most to print the JSON of the deepest trees.
-const JSON_STACK: usize = 16 * STACK;
-
-/// Checks the prints of trees that nest too deep to be read.
-fn check_deep_prints<T: crate::form::Form + Numbered + Packed>(tree: impl Fn(usize) -> T) {
-    for levels in [DEEPEST + 1, 2 * DEEPEST, 2 * DEEPEST + 1, 5 * DEEPEST] {
-        check_print(&tree(levels));
-    }
-}
-
+/// A deep form that is cut off, has more after it or something else deep inside is not read.
 #[test]
-fn trees_of_any_depth_are_written() {
-    with_stack(JSON_STACK, || {
-        check_deep_prints(blocks);
-        check_deep_prints(loops);
-        check_deep_prints(switches);
-        check_deep_prints(sums);
-        check_deep_prints(calls);
-        check_deep_prints(templates);
+fn other_deep_bytes_are_no_packed_forms() {
+    with_stack(STACK, || {
+        let mut form = to_packed(&calls(10 * DEEPEST));
+        for size in (0..form.len()).step_by(97) {
+            assert_eq!(from_packed::<Expression>(&form[..size]), None);
+        }
+        form.push(0);
+        assert_eq!(from_packed::<Expression>(&form), None);
+        form.pop();
+        let innermost = form.iter().rposition(|byte| *byte == b'a').expect("a name") - 9;
+        for rule in [U32, UNIT, u8::MAX] {
+            let name = std::mem::replace(&mut form[innermost], rule);
+            assert_eq!(from_packed::<Expression>(&form), None);
+            form[innermost] = name;
+        }
+        assert_eq!(from_packed(&form), Some(calls(10 * DEEPEST)));
     });
 }

@@ -2,18 +2,18 @@
 
 use super::node_enums::VARIANTS;
 use super::TranslationUnit;
-use crate::form::{from_form, text_form};
+use crate::form::to_form;
 use std::cell::RefCell;
 use std::collections::BTreeSet;
 
 thread_local! {
-    /// The variants that were read, each after its enum.
-    static READ: RefCell<BTreeSet<(&'static str, &'static str)>> = RefCell::default();
+    /// The variants that were written, each after its enum.
+    static WRITTEN: RefCell<BTreeSet<(&'static str, &'static str)>> = RefCell::default();
 }
 
-/// Notes that a variant was read.
+/// Notes that a variant was written.
 pub fn note(kind: &'static str, variant: &'static str) {
-    READ.with_borrow_mut(|read| read.insert((kind, variant)));
+    WRITTEN.with_borrow_mut(|written| written.insert((kind, variant)));
 }
 
 /// A text with each kind of node.
@@ -21,9 +21,8 @@ const EVERY_KIND: &str = include_str!("../../tests/every_kind.wgsl");
 
 #[test]
 fn one_text_has_every_variant() {
-    let form = text_form::<TranslationUnit>(EVERY_KIND).expect("a module");
-    let read: TranslationUnit = from_form(&form).expect("its form");
-    assert!(!read.global_declarations.is_empty());
+    let unit: TranslationUnit = EVERY_KIND.parse().expect("a module");
+    assert!(!to_form(&unit).is_empty());
     let all = VARIANTS.iter().copied().collect();
-    READ.with_borrow(|read| assert_eq!(*read, all));
+    WRITTEN.with_borrow(|written| assert_eq!(*written, all));
 }

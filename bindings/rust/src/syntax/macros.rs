@@ -25,17 +25,6 @@ macro_rules! structs {
                 )*
                 out.push('}');
             }
-
-            fn read(from: &mut Reader<'_>) -> Result<Self, FormError> {
-                from.expect(concat!("{\"", stringify!($first), "\":"))?;
-                let $first = Written::read(from)?;
-                $(
-                    from.expect(concat!(",\"", stringify!($field), "\":"))?;
-                    let $field = Written::read(from)?;
-                )*
-                from.expect("}")?;
-                Ok($name { $first, $($field,)* })
-            }
         }
 
         impl Coded for $name {
@@ -100,14 +89,11 @@ macro_rules! enums {
             fn write<'t>(&'t self, out: &mut Writer<'t>) {
                 match self {$(
                     $name::$variant $((either!(held, $held)))? => {
+                        #[cfg(test)]
+                        super::kinds::note(stringify!($name), stringify!($variant));
                         write_variant!(out, $variant $(either!(held, $held))?)
                     }
                 )*}
-            }
-
-            fn read(from: &mut Reader<'_>) -> Result<Self, FormError> {
-                $(read_variant!(from, $name $variant $(($held))?);)*
-                Err(from.error(FormErrorKind::Expected(concat!("a `", stringify!($name), "`"))))
             }
         }
 
@@ -184,26 +170,6 @@ macro_rules! write_variant {
         $held.write($out);
         $out.push('}');
     }};
-}
-
-/// Reads a variant if it is next.
-macro_rules! read_variant {
-    ($from:ident, $name:ident $variant:ident) => {
-        if $from.takes(concat!("\"", stringify!($variant), "\"")) {
-            #[cfg(test)]
-            super::kinds::note(stringify!($name), stringify!($variant));
-            return Ok($name::$variant);
-        }
-    };
-    ($from:ident, $name:ident $variant:ident ($held:ty)) => {
-        if $from.takes(concat!("{\"", stringify!($variant), "\":")) {
-            #[cfg(test)]
-            super::kinds::note(stringify!($name), stringify!($variant));
-            let held = Written::read($from)?;
-            $from.expect("}")?;
-            return Ok($name::$variant(held));
-        }
-    };
 }
 
 /// What is said of a variant that holds something: a pattern or an expression.

@@ -1,13 +1,13 @@
 //! The printed texts of nodes.
 
 use super::*;
-use crate::calls::packed_print_of;
+use crate::calls::print_of;
 use crate::packed::{to_packed, Packed};
 use std::fmt;
 
 /// Prints a node.
 fn print<T: Packed>(node: &T, f: &mut fmt::Formatter<'_>) -> fmt::Result {
-    let text = packed_print_of(&to_packed(node));
+    let text = print_of(&to_packed(node));
     f.write_str(&text.ok_or(fmt::Error)?)
 }
 
@@ -21,17 +21,6 @@ macro_rules! prints {
             }
         }
     )*};
-}
-
-/// The kinds of these that have a number in `wgsl.h`.
-macro_rules! numbered_prints {
-    ($($name:ident = $number:literal,)*) => {
-        $(impl Numbered for $name {
-            const NUMBER: u32 = $number;
-        })*
-
-        prints! { $($name)* }
-    };
 }
 
 impl fmt::Display for TemplateArg {

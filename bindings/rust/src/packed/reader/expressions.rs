@@ -15,6 +15,9 @@ impl Reader<'_> {
     /// Reads a span and an expression.
     pub(super) fn expression_node(&mut self) -> Option<ExpressionNode> {
         let span = self.span()?;
+        if self.is_deep() {
+            return self.leave_out(Kind::Expression, span);
+        }
         Some(Spanned::new_boxed(self.expression()?, span))
     }
 
@@ -52,7 +55,7 @@ impl Reader<'_> {
             let literal = self.literal(rule)?;
             return Some(Box::new(Expression::Literal(literal)));
         }
-        self.open()?;
+        self.depth += 1;
         let expression = match rule {
             PARENTHESIZED => {
                 let expression = self.expression_node()?;
@@ -75,7 +78,7 @@ impl Reader<'_> {
             }
             _ => return None,
         };
-        self.close();
+        self.depth -= 1;
         Some(expression)
     }
 
@@ -94,13 +97,13 @@ impl Reader<'_> {
 
     /// Reads what is leftmost in a component, an element or an operation, and what follows it.
     fn chain(&mut self) -> Option<Box<Expression>> {
-        self.open()?;
+        self.depth += 1;
         let rule = self.rule()?;
         let mut left = self.leftmost(rule)?;
         loop {
             let rule = self.rule()?;
             if rule == NOTHING {
-                self.close();
+                self.depth -= 1;
                 return Some(left);
             }
             let left_node = Spanned::new_boxed(left, self.span()?);
@@ -157,9 +160,9 @@ impl Reader<'_> {
         match self.rule()? {
             NAME => self.ident().map(TypeExpression::new),
             TEMPLATE => {
-                self.open()?;
+                self.depth += 1;
                 let ty = self.template()?;
-                self.close();
+                self.depth -= 1;
                 Some(ty)
             }
             _ => None,

@@ -27,9 +27,9 @@ macro_rules! unpacked_statements {
                         Box::new(Statement::$short($self.$short_after(attributes)?))
                     })*
                     $($rule)|* => {
-                        $self.open()?;
+                        $self.depth += 1;
                         let statement = $self.nesting(rule, attributes)?;
-                        $self.close();
+                        $self.depth -= 1;
                         statement
                     }
                     VOID if attributes.is_empty() => Box::new(Statement::Void),
@@ -86,11 +86,21 @@ impl Unpacked for Statement {
 }
 
 impl Reader<'_> {
-    /// Reads a statement with the `;` that ends it.
+    /// Reads a statement, with the `;` that ends it or without.
     fn statement(&mut self) -> Option<Box<Statement>> {
         let rule = self.rule()?;
         let after = if rule == ENDED { self.rule()? } else { rule };
         self.statement_after(after)
+    }
+
+    /// Reads a span and a statement.
+    #[inline]
+    fn statement_node(&mut self) -> Option<StatementNode> {
+        let span = self.span()?;
+        if self.is_deep() {
+            return self.leave_out(Kind::Statement, span);
+        }
+        Some(Spanned::new_boxed(self.statement()?, span))
     }
 
     /// Reads the kind of a declaration.
@@ -122,10 +132,7 @@ impl Reader<'_> {
         let mut statements = Vec::new();
         loop {
             match self.rule()? {
-                ITEM => {
-                    let span = self.span()?;
-                    statements.push(Spanned::new_boxed(self.statement()?, span));
-                }
+                ITEM => statements.push(self.statement_node()?),
                 VOID_ITEM => statements.push(Spanned::new(Statement::Void, self.span()?)),
                 BLOCK_END | EMPTY_END | OPENED_END | EMPTY_OPENED_END => return Some(statements),
                 _ => return None,
@@ -176,11 +183,6 @@ impl Reader<'_> {
 
     /// Reads a statement in the header of a `for`, if it is there.
     fn part(&mut self) -> Option<Option<StatementNode>> {
-        if !self.has(NODE)? {
-            return Some(None);
-        }
-        let (span, rule) = (self.span()?, self.rule()?);
-        let statement = self.statement_after(rule)?;
-        Some(Some(Spanned::new_boxed(statement, span)))
+        self.optional(NODE, Self::statement_node)
     }
 }

@@ -2,27 +2,24 @@
 
 use super::*;
 
-numbered_prints! {
-    TranslationUnit = 0,
-    GlobalDirective = 1,
-    GlobalDeclaration = 2,
-    Statement = 3,
-    Expression = 4,
-    Attribute = 5,
-    StructMember = 6,
-    FormalParameter = 7,
-    DeclarationKind = 8,
-    CaseSelector = 9,
-    IfClause = 10,
-    ElseIfClause = 11,
-    ElseClause = 12,
-    SwitchClause = 13,
-    ContinuingStatement = 14,
-    BreakIfStatement = 15,
-    TypeConstraint = 16,
-}
-
 prints! {
+    TranslationUnit
+    GlobalDirective
+    GlobalDeclaration
+    Statement
+    Expression
+    Attribute
+    StructMember
+    FormalParameter
+    DeclarationKind
+    CaseSelector
+    IfClause
+    ElseIfClause
+    ElseClause
+    SwitchClause
+    ContinuingStatement
+    BreakIfStatement
+    TypeConstraint
     DiagnosticDirective
     EnableDirective
     RequiresDirective

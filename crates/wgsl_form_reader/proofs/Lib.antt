@@ -1,4 +1,0 @@
-pub mod Numbers
-pub mod Texts
-pub mod Refused
-pub mod RefusedTexts

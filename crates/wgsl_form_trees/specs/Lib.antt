@@ -1,4 +1,0 @@
-pub mod Held
-pub mod Openings
-pub mod Reading
-pub mod Simple
