@@ -1,0 +1,4 @@
+pub mod Forms
+pub mod Words
+pub mod Expressions
+pub mod Attributes

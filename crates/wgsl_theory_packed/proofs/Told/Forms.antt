@@ -1,0 +1,154 @@
+-- Forms that are told apart, whatever follows them.
+use Rattle.std.proofs.Common.{ℕ, ℤ, ◌≡◌, ◌==◌, ◌<◌, ◌^◌, refl, sym, ap, subst, ◌∙◌, false, List, [], ◌∷◌, ◌++◌, append_assoc, append-nil, length, take, drop, get_or, Option, Some, None}
+use Rattle.std.proofs.Math.Seq.{take-append_seam, drop-append_seam}
+use Rattle.std.proofs.lemmas.List.{append_cancel_left}
+use Rattle.std.proofs.lemmas.Bool.{eqb-false}
+use Rattle.std.proofs.lemmas.Nat.{from_le_bytes-to_le_bytes_8}
+use Rattle.std.specs.Int.{w64, from_le_bytes}
+use Rattle.std.specs.Option.{IfSome}
+use Rattle.grammar.specs.Tokens.{Span}
+use Rattle.wgsl_model_packed.specs.Rules.{nothing_rule}
+use Rattle.wgsl_model_packed.specs.Printing.{packed_number, packed_text, packed_span}
+use Rattle.wgsl_model_packed.specs.Expressions.{packed_optional, rule_before, packed_items, packed_list}
+use Rattle.wgsl_theory_packed.specs.Fits.{Every, TextFits, SpanFits, HaveOwnForms}
+
+-- where two forms are equal, whatever follows each, E holds, and what follows is equal
+pub record Tells (f g : List ℕ) (E : Type 0) : Type 0 where
+  pub told : (r s : List ℕ) → f ++ r ≡ g ++ s → E × (r ≡ s)
+
+-- the form of a tree is told from those of others
+abbrev pub IsTold : {X : Type 0} → (X → Type 0) → (X → List ℕ) → X → Type 0
+IsTold {X} Fit packed x = (y : X) → Fit y → Tells (packed x) (packed y) (x ≡ y)
+
+-- the forms of trees that fit are told apart
+abbrev pub AreTold : {X : Type 0} → (X → Type 0) → (X → List ℕ) → Type 0
+AreTold {X} Fit packed = (x : X) → Fit x → IsTold Fit packed x
+
+pub own_forms : {X : Type 0} (Fit : X → Type 0) (packed : X → List ℕ) → AreTold Fit packed → HaveOwnForms Fit packed
+own_forms Fit packed told a b h k e =
+    ((told a h b k).told [] [] (append-nil (packed a) ∙ e ∙ sym (append-nil (packed b)))).0
+
+-- the same forms, written otherwise
+pub tells_of : {f g h k : List ℕ} {E : Type 0} → f ≡ h → g ≡ k → Tells f g E → Tells h k E
+tells_of {g = g} {h = h} {E = E} p q one =
+    subst (λ (k : List ℕ). Tells h k E) q (subst (λ (h : List ℕ). Tells h g E) p one)
+
+-- what follows from what is told
+pub so : {f g : List ℕ} {D E : Type 0} → (D → E) → Tells f g D → Tells f g E
+so c one = record { told = λ r s e. (let d = one.told r s e in (c d.0, d.1)) }
+
+-- ---- parts
+-- forms of two parts
+infixr 10 ◌▸◌
+pub ◌▸◌ : {f g h k : List ℕ} {D E : Type 0} → Tells f g D → Tells h k E → Tells (f ++ h) (g ++ k) (D × E)
+◌▸◌ {f} {g} {h} {k} one two = record {
+  told = λ r s e. (
+      let first = one.told (h ++ r) (k ++ s) (sym (append_assoc f h r) ∙ e ∙ append_assoc g k s) in
+      let second = two.told r s first.1 in
+      ((first.0, second.0), second.1));
+}
+
+-- the same form of one thing
+pub same : {X : Type 0} {f : List ℕ} {x : X} → Tells f f (x ≡ x)
+same {f = f} = record { told = λ r s e. (refl, append_cancel_left f r s e) }
+
+-- rules before forms that are told apart without them
+pub after_rule : {m n : ℕ} {f g : List ℕ} {E : Type 0} → Tells f g E → Tells (m ∷ f) (n ∷ g) E
+after_rule one = record { told = λ r s e. one.told r s (ap (drop 1) e) }
+
+-- two rules
+pub told_rule : (m n : ℕ) → Tells (m ∷ []) (n ∷ []) (m ≡ n)
+told_rule m n = record { told = λ r s e. (ap (λ l. get_or l 0 0) e, ap (drop 1) e) }
+
+pub apart : {m n : ℕ} {f g : List ℕ} {E : Type 0} → (m == n) ≡ false → Tells (m ∷ f) (n ∷ g) E
+apart {m} {n} h = record { told = λ r s e. absurd (eqb-false m n h (ap (λ l. get_or l 0 0) e)) }
+
+-- told the other way round
+pub turned : {X : Type 0} {f g : List ℕ} {x y : X} → Tells f g (x ≡ y) → Tells g f (y ≡ x)
+turned one = record { told = λ r s e. (let d = one.told s r (sym e) in (sym d.0, sym d.1)) }
+
+-- nodes that are made of one part and more
+pub of_one : {A X : Type 0} {f g : List ℕ} {a b : A} (node : A → X) → Tells f g (a ≡ b) → Tells f g (node a ≡ node b)
+of_one node = so (λ d i. node (d i))
+
+pub of_two : {A B X : Type 0} {f g : List ℕ} {a c : A} {b d : B} (node : A → B → X)
+    → Tells f g ((a ≡ c) × (b ≡ d)) → Tells f g (node a b ≡ node c d)
+of_two node = so (λ d i. node (d.0 i) (d.1 i))
+
+pub of_three : {A B C X : Type 0} {f g : List ℕ} {a c : A} {b d : B} {p q : C} (node : A → B → C → X)
+    → Tells f g ((a ≡ c) × ((b ≡ d) × (p ≡ q))) → Tells f g (node a b p ≡ node c d q)
+of_three node = so (λ d i. node (d.0 i) (d.1.0 i) (d.1.1 i))
+
+pub of_four : {A B C D X : Type 0} {f g : List ℕ} {a c : A} {b d : B} {p q : C} {v w : D} (node : A → B → C → D → X)
+    → Tells f g ((a ≡ c) × ((b ≡ d) × ((p ≡ q) × (v ≡ w)))) → Tells f g (node a b p v ≡ node c d q w)
+of_four node = so (λ d i. node (d.0 i) (d.1.0 i) (d.1.1.0 i) (d.1.1.1 i))
+
+-- ---- numbers, texts and spans
+pub told_number : AreTold (λ n. n < 2 ^ 64) packed_number
+told_number m h n k = record {
+  told = λ r s e. (
+      sym (from_le_bytes-to_le_bytes_8 m h) ∙ ap (λ l. from_le_bytes w64 (take 8 l)) e
+      ∙ from_le_bytes-to_le_bytes_8 n k,
+      ap (drop 8) e);
+}
+
+told_bytes : (a b r s : List ℕ) → length a ≡ length b → a ++ r ≡ b ++ s → (a ≡ b) × (r ≡ s)
+told_bytes a b r s l e = (
+  sym (take-append_seam a r) ∙ (λ i. take (l i) (e i)) ∙ take-append_seam b s,
+  sym (drop-append_seam a r) ∙ (λ i. drop (l i) (e i)) ∙ drop-append_seam b s,
+)
+
+pub told_text : AreTold TextFits packed_text
+told_text a h b k = record {
+  told = λ r s e. (
+      let size = (told_number (length a) h (length b) k).told (a ++ r) (b ++ s)
+      (sym (append_assoc (packed_number (length a)) a r) ∙ e ∙ append_assoc (packed_number (length b)) b s) in
+      told_bytes a b r s size.0 size.1);
+}
+
+pub told_span : AreTold SpanFits packed_span
+told_span x h y k = of_two (λ (start end : ℕ). record { start = start; end = end })
+    (told_number x.start h.0 y.start k.0 ▸ told_number x.end h.1 y.end k.1)
+
+-- ---- what may be left out, and lists
+pub told_optional : {X : Type 0} {Fit : X → Type 0} {packed : X → List ℕ} (rule : ℕ) → (rule == nothing_rule) ≡ false
+    → AreTold Fit packed → AreTold (λ o. IfSome o Fit) (packed_optional rule packed)
+told_optional rule differs item None h None k = same
+told_optional rule differs item None h (Some y) k = turned (apart differs)
+told_optional rule differs item (Some x) h None k = apart differs
+told_optional rule differs item (Some x) h (Some y) k = of_one (λ x. Some x) (after_rule (item x h y k))
+
+any : {X : Type 0} (o : Option X) → IfSome o (λ x. Unit {0})
+any None = tt
+any (Some x) = tt
+
+-- a word that may be left out
+pub told_further_word : {X : Type 0} {packed : X → List ℕ} (rule : ℕ) → (rule == nothing_rule) ≡ false
+    → ((x y : X) → Tells (packed x) (packed y) (x ≡ y))
+    → (a b : Option X) → Tells (packed_optional rule packed a) (packed_optional rule packed b) (a ≡ b)
+told_further_word {packed = packed} rule differs item a b =
+    told_optional {Fit = λ x. Unit {0}} rule differs (λ x h y k. item x y) a (any a) b (any b)
+
+told_items : {X : Type 0} {Fit : X → Type 0} {packed : X → List ℕ} (before last : ℕ) → (before == last) ≡ false
+    → AreTold Fit packed → (x : X) (xs : List X) → Fit x → Every Fit xs → (y : X) (ys : List X) → Fit y → Every Fit ys
+    → Tells (packed_items before last packed (x ∷ xs)) (packed_items before last packed (y ∷ ys)) (x ∷ xs ≡ y ∷ ys)
+told_items before last differs item x [] h hs y [] k ks = of_two ◌∷◌ (after_rule (item x h y k ▸ same))
+told_items before last differs item x [] h hs y (w ∷ ys) k ks = turned (apart differs)
+told_items before last differs item x (v ∷ xs) h hs y [] k ks = apart differs
+told_items before last differs item x (v ∷ xs) h hs y (w ∷ ys) k ks = of_two ◌∷◌ (after_rule
+    (item x h y k ▸ told_items before last differs item v xs hs.0 hs.1 w ys ks.0 ks.1))
+
+-- the rule of an item is not that of no items
+item_rule : {X : Type 0} (none before last : ℕ) (xs : List X) → (none == before) ≡ false
+    → (none == last) ≡ false → (none == rule_before before last xs) ≡ false
+item_rule none before last [] b l = l
+item_rule none before last (x ∷ xs) b l = b
+
+pub told_list : {X : Type 0} {Fit : X → Type 0} {packed : X → List ℕ} (none before last : ℕ) → (none == before) ≡ false
+    → (none == last) ≡ false → (before == last) ≡ false
+    → AreTold Fit packed → AreTold (Every Fit) (packed_list none before last packed)
+told_list none before last b l differs item [] h [] k = same
+told_list none before last b l differs item [] h (y ∷ ys) k = apart (item_rule none before last ys b l)
+told_list none before last b l differs item (x ∷ xs) h [] k = turned (apart (item_rule none before last xs b l))
+told_list none before last b l differs item (x ∷ xs) h (y ∷ ys) k =
+    told_items before last differs item x xs h.0 h.1 y ys k.0 k.1
