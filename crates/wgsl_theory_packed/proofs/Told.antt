@@ -2,3 +2,4 @@ pub mod Forms
 pub mod Words
 pub mod Expressions
 pub mod Attributes
+pub mod Statements
