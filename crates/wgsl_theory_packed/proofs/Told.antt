@@ -3,3 +3,4 @@ pub mod Words
 pub mod Expressions
 pub mod Attributes
 pub mod Statements
+pub mod Units

@@ -7,7 +7,7 @@ use Rattle.grammar.specs.Tokens.{Span}
 use Rattle.wgsl_model.specs.Printed.Statements.{is_void}
 use Rattle.wgsl_model.specs.Printed.Units as units
 use Rattle.wgsl_model.specs.Trees.Spanned.{Spanned}
-use Rattle.wgsl_model.specs.Trees.Attributed.{Attributed}
+use Rattle.wgsl_model.specs.Trees.Attributed.{Attributed, without_attributes}
 use Rattle.wgsl_model.specs.Trees.Expressions.{LiteralExpression, abstract_int, i32, u32, abstract_float, f32, f16, ExpressionNode, expression_node, Expression, literal, parenthesized, named_component, indexing, unary, binary, function_call, type_or_identifier, FunctionCall, call, TypeExpression, type_expression, TemplateArguments, no_template, template, ExpressionNodes, no_expressions, expression_before}
 use Rattle.wgsl_model.specs.Trees.Attributes.{Attribute, with_argument, diagnostic, workgroup_size, type_constraint, custom, Attributes, TypeConstraint}
 use Rattle.wgsl_model.specs.Trees.Statements.{Declaration, BreakIfStatement, CaseSelector, default_selector, expression_selector, StatementNode, statement_node, Statement, statement, UnattributedStatement, void, compound, assignment, increment, decrement, if_statement, switch_statement, loop_statement, for_statement, while_statement, return_statement, function_call_statement, const_assert, declaration, CompoundStatement, compound_statement, IfStatement, if_else, IfClause, if_clause, ElseIfClause, else_if_clause, ElseClause, else_clause, SwitchStatement, switch, SwitchClause, switch_clause, LoopStatement, repeat, ContinuingStatement, continuing, ForStatement, repeat_for, WhileStatement, repeat_while, StatementNodes, no_statements, statement_before, ElseIfClauses, no_else_ifs, else_if_before, MaybeElseClause, no_else, one_else, SwitchClauses, no_clauses, clause_before, MaybeContinuing, no_continuing, one_continuing, MaybeStatement, no_statement, one_statement, unattributed}
@@ -217,7 +217,7 @@ GlobalDeclarationFits d = AttributesFit d.attributes × UnattributedDeclarationF
 -- a declaration of a module, without attributes if it is empty
 abbrev pub GlobalItemFits : Spanned tree.GlobalDeclaration → Type 0
 GlobalItemFits d = SpanFits d.span × GlobalDeclarationFits d.node
-    × (units.is_void d.node ≡ true → d.node.attributes ≡ [])
+    × (units.is_void d.node ≡ true → d.node ≡ without_attributes tree.void)
 
 abbrev pub UnitFits : tree.TranslationUnit → Type 0
 UnitFits u = Every DirectiveFits u.global_directives × Every GlobalItemFits u.global_declarations

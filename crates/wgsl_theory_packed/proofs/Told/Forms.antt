@@ -1,5 +1,5 @@
 -- Forms that are told apart, whatever follows them.
-use Rattle.std.proofs.Common.{ℕ, ℤ, ◌≡◌, ◌==◌, ◌<◌, ◌^◌, refl, sym, ap, subst, ◌∙◌, false, List, [], ◌∷◌, ◌++◌, append_assoc, append-nil, length, take, drop, get_or, Option, Some, None}
+use Rattle.std.proofs.Common.{ℕ, ℤ, ◌≡◌, ◌==◌, ◌<◌, ◌^◌, refl, sym, ap, subst, ◌∙◌, Bool, true, false, if◌then◌else◌, List, [], ◌∷◌, ◌++◌, append_assoc, append-nil, length, take, drop, get_or, Option, Some, None}
 use Rattle.std.proofs.Math.Seq.{take-append_seam, drop-append_seam}
 use Rattle.std.proofs.lemmas.List.{append_cancel_left}
 use Rattle.std.proofs.lemmas.Bool.{eqb-false}
@@ -7,7 +7,7 @@ use Rattle.std.proofs.lemmas.Nat.{from_le_bytes-to_le_bytes_8}
 use Rattle.std.specs.Int.{w64, from_le_bytes}
 use Rattle.std.specs.Option.{IfSome}
 use Rattle.grammar.specs.Tokens.{Span}
-use Rattle.wgsl_model_packed.specs.Rules.{nothing_rule}
+use Rattle.wgsl_model_packed.specs.Rules.{nothing_rule, void_item_rule}
 use Rattle.wgsl_model_packed.specs.Printing.{packed_number, packed_text, packed_span}
 use Rattle.wgsl_model_packed.specs.Expressions.{packed_optional, rule_before, packed_items, packed_list}
 use Rattle.wgsl_theory_packed.specs.Fits.{Every, TextFits, SpanFits, HaveOwnForms}
@@ -152,3 +152,21 @@ told_list none before last b l differs item [] h (y ∷ ys) k = apart (item_rule
 told_list none before last b l differs item (x ∷ xs) h [] k = turned (apart (item_rule none before last xs b l))
 told_list none before last b l differs item (x ∷ xs) h (y ∷ ys) k =
     told_items before last differs item x xs h.0 h.1 y ys k.0 k.1
+
+-- ---- items that may be empty
+-- an item before others, by whether it is empty: its span, and what follows it
+abbrev pub item_form : ℕ → Bool → Span → List ℕ → List ℕ → List ℕ
+item_form rule empty span more rest = if empty then void_item_rule ∷ (packed_span span ++ more)
+    else rule ∷ (packed_span span ++ rest)
+
+-- there is one empty item
+pub told_item : {X Y : Type 0} {f g p q : List ℕ} {xs ys : Y} (rule : ℕ) → (void_item_rule == rule) ≡ false
+    → (empty : X) (before : X → Span → Y → Y) (b c : Bool) (x y : X) → (b ≡ true → x ≡ empty) → (c ≡ true → y ≡ empty)
+    → (s t : Span) → SpanFits s → SpanFits t → Tells f g (xs ≡ ys) → Tells p q ((x ≡ y) × (xs ≡ ys))
+    → Tells (item_form rule b s f p) (item_form rule c t g q) (before x s xs ≡ before y t ys)
+told_item rule differs empty before true true x y h k s t u v more rest =
+    so (λ d i. before ((h refl ∙ sym (k refl)) i) (d.0 i) (d.1 i)) (after_rule (told_span s u t v ▸ more))
+told_item rule differs empty before false false x y h k s t u v more rest =
+    so (λ d i. before (d.1.0 i) (d.0 i) (d.1.1 i)) (after_rule (told_span s u t v ▸ rest))
+told_item rule differs empty before true false x y h k s t u v more rest = apart differs
+told_item rule differs empty before false true x y h k s t u v more rest = turned (apart differs)

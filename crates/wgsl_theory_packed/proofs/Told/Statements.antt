@@ -13,7 +13,7 @@ use Rattle.wgsl_model_packed.specs.Printing.{packed_text, packed_span}
 use Rattle.wgsl_model_packed.specs.Rules.{nothing_rule, node_rule, parts_rule, part_rule, further_word_rule, var_template_rule, typed_rule, initializer_rule, returned_rule, ended_rule, void_item_rule, item_rule, block_end_rule, empty_end_rule, opened_end_rule, empty_opened_end_rule, lines_rule, indented_line_rule}
 use Rattle.wgsl_model_packed.specs.Statements.{packed_var_template, packed_kind, packed_declaration, packed_break_if, packed_selector, end_of, end_of_clauses, packed_after, packed_statement, packed_in, packed_compound, packed_opened, packed_if, packed_if_clause, packed_else_ifs, packed_else_if_clause, packed_else, packed_else_clause, packed_switch, packed_clauses, packed_switch_clause, packed_loop, packed_maybe_continuing, packed_continuing, packed_for, packed_part, packed_while}
 use Rattle.wgsl_theory_packed.specs.Fits.{Every, SpanFits, NodeFits, AttributesFit, DeclarationFits, BreakIfFits, SelectorFits, StatementFits, UnattributedFits, ItemFits, ItemsFit, CompoundFits, IfFits, IfClauseFits, ElseIfsFit, ElseIfClauseFits, ElseFits, ElseClauseFits, SwitchFits, ClausesFit, SwitchClauseFits, LoopFits, MaybeContinuingFits, ContinuingFits, ForFits, PartFits, WhileFits}
-use Rattle.wgsl_theory_packed.proofs.Told.Forms.{Tells, IsTold, AreTold, tells_of, so, ◌▸◌, same, turned, after_rule, told_rule, apart, of_one, of_two, of_three, of_four, told_text, told_span, told_optional, told_further_word, told_list}
+use Rattle.wgsl_theory_packed.proofs.Told.Forms.{Tells, IsTold, AreTold, tells_of, so, ◌▸◌, same, turned, after_rule, item_form, told_item, told_rule, apart, of_one, of_two, of_three, of_four, told_text, told_span, told_optional, told_further_word, told_list}
 use Rattle.wgsl_theory_packed.proofs.Told.Words.{told_address_space, told_access_mode, told_assignment_operator}
 use Rattle.wgsl_theory_packed.proofs.Told.Expressions.{told_node, told_call, told_type}
 use Rattle.wgsl_theory_packed.proofs.Told.Attributes.{told_attribute_line}
@@ -69,33 +69,18 @@ ended_told a x b y one = record {
 }
 
 -- ---- blocks
--- an item before others, by whether it is empty
-abbrev item_form : Bool → Span → List ℕ → List ℕ → List ℕ
-item_form empty span form more = if empty then void_item_rule ∷ (packed_span span ++ more)
-    else item_rule ∷ (packed_span span ++ (form ++ more))
-
 item_before : (empty : Bool) (span : Span) (form more end : List ℕ)
-    → item_form empty span form (more ++ end) ≡ item_form empty span form more ++ end
+    → item_form item_rule empty span (more ++ end) (form ++ (more ++ end))
+    ≡ item_form item_rule empty span more (form ++ more) ++ end
 item_before true span form more end = simp append_assoc
 item_before false span form more end = simp append_assoc
-
-told_item : (b c : Bool) (s t : Statement) → (b ≡ true → s ≡ unattributed void) → (c ≡ true → t ≡ unattributed void)
-    → (x y : Span) → SpanFits x → SpanFits y → Tells (packed_statement s) (packed_statement t) (s ≡ t)
-    → {f g : List ℕ} {ss ts : StatementNodes} → Tells f g (ss ≡ ts)
-    → Tells (item_form b x (packed_statement s) f) (item_form c y (packed_statement t) g)
-    (statement_before (statement_node s x) ss ≡ statement_before (statement_node t y) ts)
-told_item true true s t h k x y f g one more = so (λ d i. statement_before (statement_node ((h refl ∙ sym (k refl)) i)
-    (d.0 i)) (d.1 i)) (after_rule (told_span x f y g ▸ more))
-told_item false false s t h k x y f g one more = so (λ d i. statement_before (statement_node (d.1.0 i) (d.0 i))
-    (d.1.1 i)) (after_rule (told_span x f y g ▸ one ▸ more))
-told_item b c s t h k x y f g one more = apart refl
 
 -- a rule that is after those of items
 abbrev IsEnd : ℕ → Type 0
 IsEnd n = item_rule < n
 
 no_item : {h : List ℕ} {E : Type 0} (n : ℕ) → IsEnd n → (b : Bool) (x : Span) (f g : List ℕ)
-    → Tells (n ∷ h) (item_form b x f g) E
+    → Tells (n ∷ h) (item_form item_rule b x f g) E
 no_item n h true x f g = apart (ne_eqb n void_item_rule (λ e. omega (arith, h, e)))
 no_item n h false x f g = apart (ne_eqb n item_rule (λ e. omega (arith, h, e)))
 
@@ -108,7 +93,7 @@ some_items : (m : ℕ) → IsEnd m → (t : Statement) (y : Span) (ts : Statemen
     → Tells (m ∷ []) (packed_in (statement_before (statement_node t y) ts) ++ (n ∷ []))
     (no_statements ≡ statement_before (statement_node t y) ts)
 some_items m h t y ts n = tells_of refl (item_before (is_void t) y (packed_statement t) (packed_in ts) (n ∷ []))
-    (no_item m h (is_void t) y (packed_statement t) (packed_in ts ++ (n ∷ [])))
+    (no_item m h (is_void t) y (packed_in ts ++ (n ∷ [])) (packed_statement t ++ (packed_in ts ++ (n ∷ []))))
 
 no_items : IsBlockTold no_statements
 no_items m e no_statements k n f = so (λ d. refl) (told_rule m n)
@@ -120,7 +105,8 @@ two_items s x ss h one more m e no_statements k n f = turned (some_items n f s x
 two_items s x ss h one more m e (statement_before (statement_node t y) ts) k n f =
     tells_of (item_before (is_void s) x (packed_statement s) (packed_in ss) (m ∷ []))
     (item_before (is_void t) y (packed_statement t) (packed_in ts) (n ∷ []))
-    (told_item (is_void s) (is_void t) s t h.2 k.0.2 x y h.0 k.0.0 (one t k.0.1) (more m e ts k.1 n f))
+    (told_item item_rule refl (unattributed void) (λ s x ss. statement_before (statement_node s x) ss) (is_void s)
+    (is_void t) s t h.2 k.0.2 x y h.0 k.0.0 (more m e ts k.1 n f) (one t k.0.1 ▸ more m e ts k.1 n f))
 
 -- the rule that ends a block
 abbrev Ends : List ℕ → Type 0
