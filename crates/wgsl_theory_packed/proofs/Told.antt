@@ -4,3 +4,4 @@ pub mod Expressions
 pub mod Attributes
 pub mod Statements
 pub mod Units
+pub mod OwnForms

@@ -1,4 +1,5 @@
--- Which trees fit in packed forms: their numbers and the lengths of their texts have 64 bits, and what
+-- Which trees fit in packed forms: their numbers and the lengths of their texts have 64 bits, and
+-- what
 -- forms leave out is not there: attributes of empty items, and of what a function does not return.
 use Rattle.std.specs.Prelude.{ℕ, ◌≡◌, ◌<◌, ◌^◌, true, List, [], ◌∷◌, length, Option, Some, None, FitsSigned}
 use Rattle.std.specs.Int.{w64}

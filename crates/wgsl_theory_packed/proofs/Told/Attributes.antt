@@ -1,13 +1,12 @@
 -- Attributes are told apart.
-use Rattle.std.proofs.Common.{ℕ, ◌≡◌, refl, List, Option, Some, None}
-use Rattle.std.specs.Option.{IfSome}
+use Rattle.std.proofs.Common.{ℕ, refl, List, Option}
 use Rattle.grammar.specs.Tokens.{Span}
 use Rattle.wgsl_model.specs.Trees.NamedValues.{DiagnosticSeverity, InterpolationType, InterpolationSampling}
 use Rattle.wgsl_model.specs.Trees.Spanned.{Spanned, spanned}
 use Rattle.wgsl_model.specs.Trees.Expressions.{ExpressionNode, TypeExpression}
-use Rattle.wgsl_model.specs.Trees.Attributes.{Attribute, with_argument, without_argument, builtin, diagnostic, interpolate, workgroup_size, type_constraint, custom, TypeConstraint}
+use Rattle.wgsl_model.specs.Trees.Attributes.{Attribute, with_argument, without_argument, builtin, diagnostic, interpolate, workgroup_size, type_constraint, custom}
 use Rattle.wgsl_model_packed.specs.Rules.{types_rule, part_rule, attributes_rule, attributes_line_rule, attributes_space_rule, further_word_rule, further_node_rule, arguments_rule, nodes_rule, node_rule, nothing_rule}
-use Rattle.wgsl_model_packed.specs.Attributes.{packed_type_constraint, packed_sampling, packed_attribute, packed_attribute_node, packed_attribute_line, packed_attributes_before}
+use Rattle.wgsl_model_packed.specs.Attributes.{packed_type_constraint, packed_attribute, packed_attribute_node, packed_attribute_line, packed_attributes_before}
 use Rattle.wgsl_theory_packed.specs.Fits.{SpanFits, ConstraintFits, AttributeFits, AttributesFit}
 use Rattle.wgsl_theory_packed.proofs.Told.Forms.{AreTold, ◌▸◌, after_rule, apart, of_one, of_two, of_three, told_text, told_span, told_optional, told_further_word, told_list}
 use Rattle.wgsl_theory_packed.proofs.Told.Words.{told_one_argument, told_no_argument, told_builtin_value, told_severity, told_interpolation_type, told_interpolation_sampling}
@@ -22,7 +21,8 @@ told_constraint t h s k =
 pub told_attribute : AreTold AttributeFits packed_attribute
 told_attribute (with_argument a e) h (with_argument b d) k =
     of_two with_argument (after_rule (told_one_argument a b ▸ told_node e h d k))
-told_attribute (without_argument a) h (without_argument b) k = of_one without_argument (after_rule (told_no_argument a b))
+told_attribute (without_argument a) h (without_argument b) k = of_one without_argument
+    (after_rule (told_no_argument a b))
 told_attribute (builtin a) h (builtin b) k = of_one builtin (after_rule (told_builtin_value a b))
 told_attribute (diagnostic a) h (diagnostic b) k =
     of_two (λ (severity : DiagnosticSeverity) (rule : List ℕ). diagnostic (record { severity = severity; rule = rule }))

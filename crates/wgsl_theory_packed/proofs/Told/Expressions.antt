@@ -1,5 +1,6 @@
--- Expressions and types are told apart. What is leftmost in a chain is no chain, and its links follow.
-use Rattle.std.proofs.Common.{ℕ, ℤ, ◌≡◌, ◌==◌, ◌<◌, ◌^◌, refl, sym, ap, ◌∙◌, Bool, true, false, if◌then◌else◌, List, [], ◌∷◌, ◌++◌, append_assoc, length, get_or, arith, ne_eqb}
+-- Expressions and types are told apart. What is leftmost in a chain is no chain, and its links
+-- follow.
+use Rattle.std.proofs.Common.{ℕ, ℤ, ◌≡◌, ◌==◌, ◌<◌, ◌^◌, refl, sym, ap, ◌∙◌, Bool, true, false, if◌then◌else◌, List, [], ◌∷◌, ◌++◌, append_assoc, get_or, arith, ne_eqb}
 use Rattle.std.proofs.lemmas.Bool.{eqb-false}
 use Rattle.std.proofs.lemmas.Fmt.{decimal_injective, signed_decimal_injective, length-decimal-le, length_signed_le}
 use Rattle.std.specs.Int.{w64}
@@ -7,12 +8,12 @@ use Rattle.std.specs.Int.RustNames.{FitsSigned}
 use Rattle.std.specs.Fmt.{decimal, signed_decimal}
 use Rattle.grammar.specs.Tokens.{Span}
 use Rattle.wgsl_model.specs.Printed.Expressions.{is_abstract_int, expression_in, fuses}
-use Rattle.wgsl_model.specs.Printed.Operators.{unary_operator_text, binary_operator_text}
+use Rattle.wgsl_model.specs.Printed.Operators.{binary_operator_text}
 use Rattle.wgsl_model.specs.Trees.Operators.{UnaryOperator, BinaryOperator}
-use Rattle.wgsl_model.specs.Trees.Expressions.{LiteralExpression, boolean, abstract_int, i32, u32, abstract_float, f32, f16, ExpressionNode, expression_node, Expression, literal, parenthesized, named_component, indexing, unary, binary, function_call, type_or_identifier, FunctionCall, call, TypeExpression, type_expression, TemplateArguments, no_template, template, ExpressionNodes, no_expressions, expression_before}
-use Rattle.wgsl_model_packed.specs.Rules.{chain_rule, component_rule, component_of_int_rule, index_rule, binary_rule, nothing_rule, unary_rule, unary_apart_rule, parenthesized_rule}
+use Rattle.wgsl_model.specs.Trees.Expressions.{LiteralExpression, boolean, abstract_int, i32, u32, abstract_float, f32, f16, ExpressionNode, expression_node, Expression, literal, parenthesized, named_component, indexing, unary, binary, function_call, type_or_identifier, FunctionCall, call, TypeExpression, type_expression, no_template, template, ExpressionNodes, no_expressions, expression_before}
+use Rattle.wgsl_model_packed.specs.Rules.{chain_rule, component_rule, component_of_int_rule, index_rule, binary_rule, nothing_rule, unary_rule, unary_apart_rule}
 use Rattle.wgsl_model_packed.specs.Printing.{packed_text, packed_span}
-use Rattle.wgsl_model_packed.specs.Expressions.{packed_literal, component_rule_of, node_rule_before, unary_rule_of, packed_expression, leftmost, packed_expression_node, packed_expressions, packed_further, packed_call, packed_type}
+use Rattle.wgsl_model_packed.specs.Expressions.{packed_literal, component_rule_of, node_rule_before, packed_expression, leftmost, packed_expression_node, packed_expressions, packed_further, packed_call, packed_type}
 use Rattle.wgsl_theory_packed.specs.Fits.{Every, TextFits, SpanFits, LiteralFits, ExpressionFits, NodeFits, CallFits, TypeFits, NodesFit}
 use Rattle.wgsl_theory_packed.proofs.Told.Forms.{Tells, IsTold, AreTold, tells_of, so, ◌▸◌, same, after_rule, told_rule, apart, turned, of_one, of_two, of_three, told_text, told_span}
 use Rattle.wgsl_theory_packed.proofs.Told.Words.{told_unary_operator, told_binary_operator}
@@ -22,8 +23,8 @@ told_signed : (m n : ℤ) → FitsSigned w64 m → FitsSigned w64 n
     → Tells (packed_text (signed_decimal m)) (packed_text (signed_decimal n)) (m ≡ n)
 told_signed m n h k = so (signed_decimal_injective m n h.sfits k.sfits) (told_text (signed_decimal m) (small m h)
     (signed_decimal n) (small n k)) where
-  small : (m : ℤ) → FitsSigned w64 m → TextFits (signed_decimal m)
-  small m h = omega (arith, length_signed_le 20 m (omega (arith, h.sfits)) h.sfits)
+      small : (m : ℤ) → FitsSigned w64 m → TextFits (signed_decimal m)
+      small m h = omega (arith, length_signed_le 20 m (omega (arith, h.sfits)) h.sfits)
 
 told_natural : (m n : ℕ) → m < 2 ^ 64 → n < 2 ^ 64
     → Tells (packed_text (decimal m)) (packed_text (decimal n)) (m ≡ n)
@@ -164,14 +165,16 @@ small_rule e = go (is_abstract_int e) where
   go false = omega arith
 
 -- where there is no link in an expression, and it is told from others
-left_of_front : (e : Expression) → ((d : Expression) → ExpressionFits d → Tells (leftmost e) (packed_expression d) (e ≡ d))
+left_of_front : (e : Expression)
+    → ((d : Expression) → ExpressionFits d → Tells (leftmost e) (packed_expression d) (e ≡ d))
     → IsLeftTold e
 left_of_front e front = record { left = go } where
   go : (ls : List Link) → Every LinkFits ls → IsTold (Every LinkFits) packed_links ls
       → (d : Expression) → ExpressionFits d → (ms : List Link) → Every LinkFits ms
       → Tells (leftmost e ++ packed_links ls) (leftmost d ++ packed_links ms) (linked e ls ≡ linked d ms)
   go ls h t (named_component (expression_node d span) name) k ms f =
-      tells_of refl (after_left (leftmost d) (packed_span span) (packed_text name) (packed_links ms) (component_rule_of d))
+      tells_of refl
+      (after_left (leftmost d) (packed_span span) (packed_text name) (packed_links ms) (component_rule_of d))
       (go ls h t d k.0.1 (component (component_rule_of d) span name ∷ ms) ((small_rule d, k.0.0, k.1), f))
   go ls h t (indexing (expression_node d span) i) k ms f =
       tells_of refl (after_left (leftmost d) (packed_span span) (packed_expression_node i) (packed_links ms) index_rule)

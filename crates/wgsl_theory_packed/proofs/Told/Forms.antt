@@ -1,5 +1,5 @@
 -- Forms that are told apart, whatever follows them.
-use Rattle.std.proofs.Common.{ℕ, ℤ, ◌≡◌, ◌==◌, ◌<◌, ◌^◌, refl, sym, ap, subst, ◌∙◌, Bool, true, false, if◌then◌else◌, List, [], ◌∷◌, ◌++◌, append_assoc, append-nil, length, take, drop, get_or, Option, Some, None}
+use Rattle.std.proofs.Common.{ℕ, ◌≡◌, ◌==◌, ◌<◌, ◌^◌, refl, sym, ap, subst, ◌∙◌, Bool, true, false, if◌then◌else◌, List, [], ◌∷◌, ◌++◌, append_assoc, append-nil, length, take, drop, get_or, Option, Some, None}
 use Rattle.std.proofs.Math.Seq.{take-append_seam, drop-append_seam}
 use Rattle.std.proofs.lemmas.List.{append_cancel_left}
 use Rattle.std.proofs.lemmas.Bool.{eqb-false}
@@ -87,9 +87,10 @@ of_four node = so (λ d i. node (d.0 i) (d.1.0 i) (d.1.1.0 i) (d.1.1.1 i))
 pub told_number : AreTold (λ n. n < 2 ^ 64) packed_number
 told_number m h n k = record {
   told = λ r s e. (
-      sym (from_le_bytes-to_le_bytes_8 m h) ∙ ap (λ l. from_le_bytes w64 (take 8 l)) e
-      ∙ from_le_bytes-to_le_bytes_8 n k,
-      ap (drop 8) e);
+    sym (from_le_bytes-to_le_bytes_8 m h) ∙ ap (λ l. from_le_bytes w64 (take 8 l)) e
+        ∙ from_le_bytes-to_le_bytes_8 n k,
+    ap (drop 8) e,
+  );
 }
 
 told_bytes : (a b r s : List ℕ) → length a ≡ length b → a ++ r ≡ b ++ s → (a ≡ b) × (r ≡ s)

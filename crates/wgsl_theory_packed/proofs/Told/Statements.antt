@@ -1,18 +1,14 @@
 -- Declarations of values and statements are told apart.
-use Rattle.std.proofs.Common.{ℕ, ◌≡◌, ◌==◌, ◌<◌, refl, sym, ap, ◌∙◌, Bool, true, false, if◌then◌else◌, List, [], ◌∷◌, ◌++◌, append_assoc, Option, Some, None, arith, ne_eqb}
-use Rattle.std.specs.Option.{IfSome}
+use Rattle.std.proofs.Common.{ℕ, ◌≡◌, ◌==◌, ◌<◌, refl, sym, ap, ◌∙◌, Bool, true, false, if◌then◌else◌, List, [], ◌∷◌, ◌++◌, append_assoc, Option, arith, ne_eqb}
 use Rattle.grammar.specs.Tokens.{Span}
-use Rattle.wgsl_model.specs.Printed.Operators.{assignment_operator_text}
 use Rattle.wgsl_model.specs.Printed.Statements.{is_void}
 use Rattle.wgsl_model.specs.Trees.NamedValues.{AddressSpace, AccessMode}
-use Rattle.wgsl_model.specs.Trees.Attributed.{Attributed, with_attributes}
+use Rattle.wgsl_model.specs.Trees.Attributed.{with_attributes}
 use Rattle.wgsl_model.specs.Trees.Attributes.{Attributes}
-use Rattle.wgsl_model.specs.Trees.Expressions.{ExpressionNode, TypeExpression}
-use Rattle.wgsl_model.specs.Trees.Statements.{DeclarationKind, const_kind, override_kind, let_kind, var_kind, Declaration, BreakIfStatement, CaseSelector, default_selector, expression_selector, StatementNode, statement_node, Statement, statement, UnattributedStatement, void, compound, assignment, increment, decrement, if_statement, switch_statement, loop_statement, for_statement, while_statement, break_statement, continue_statement, discard_statement, return_statement, function_call_statement, const_assert, declaration, CompoundStatement, compound_statement, IfStatement, if_else, IfClause, if_clause, ElseIfClause, else_if_clause, ElseClause, else_clause, SwitchStatement, switch, SwitchClause, switch_clause, LoopStatement, repeat, ContinuingStatement, continuing, ForStatement, repeat_for, WhileStatement, repeat_while, StatementNodes, no_statements, statement_before, ElseIfClauses, no_else_ifs, else_if_before, MaybeElseClause, no_else, one_else, SwitchClauses, no_clauses, clause_before, MaybeContinuing, no_continuing, one_continuing, MaybeStatement, no_statement, one_statement, unattributed, increment_of, decrement_of, return_of, call_statement_of, assert_of, break_if_of, assignment_of}
-use Rattle.wgsl_model_packed.specs.Printing.{packed_text, packed_span}
+use Rattle.wgsl_model.specs.Trees.Statements.{DeclarationKind, const_kind, override_kind, let_kind, var_kind, default_selector, expression_selector, statement_node, Statement, statement, UnattributedStatement, void, compound, assignment, increment, decrement, if_statement, switch_statement, loop_statement, for_statement, while_statement, break_statement, continue_statement, discard_statement, return_statement, function_call_statement, const_assert, declaration, compound_statement, if_else, if_clause, else_if_clause, else_clause, switch, switch_clause, repeat, continuing, repeat_for, repeat_while, StatementNodes, no_statements, statement_before, no_else_ifs, else_if_before, no_else, one_else, SwitchClauses, no_clauses, clause_before, no_continuing, one_continuing, no_statement, one_statement, unattributed, increment_of, decrement_of, return_of, call_statement_of, assert_of, break_if_of, assignment_of}
 use Rattle.wgsl_model_packed.specs.Rules.{nothing_rule, node_rule, parts_rule, part_rule, further_word_rule, var_template_rule, typed_rule, initializer_rule, returned_rule, ended_rule, void_item_rule, item_rule, block_end_rule, empty_end_rule, opened_end_rule, empty_opened_end_rule, lines_rule, indented_line_rule}
 use Rattle.wgsl_model_packed.specs.Statements.{packed_var_template, packed_kind, packed_declaration, packed_break_if, packed_selector, end_of, end_of_clauses, packed_after, packed_statement, packed_in, packed_compound, packed_opened, packed_if, packed_if_clause, packed_else_ifs, packed_else_if_clause, packed_else, packed_else_clause, packed_switch, packed_clauses, packed_switch_clause, packed_loop, packed_maybe_continuing, packed_continuing, packed_for, packed_part, packed_while}
-use Rattle.wgsl_theory_packed.specs.Fits.{Every, SpanFits, NodeFits, AttributesFit, DeclarationFits, BreakIfFits, SelectorFits, StatementFits, UnattributedFits, ItemFits, ItemsFit, CompoundFits, IfFits, IfClauseFits, ElseIfsFit, ElseIfClauseFits, ElseFits, ElseClauseFits, SwitchFits, ClausesFit, SwitchClauseFits, LoopFits, MaybeContinuingFits, ContinuingFits, ForFits, PartFits, WhileFits}
+use Rattle.wgsl_theory_packed.specs.Fits.{AttributesFit, DeclarationFits, BreakIfFits, SelectorFits, StatementFits, UnattributedFits, ItemFits, ItemsFit, CompoundFits, IfFits, IfClauseFits, ElseIfsFit, ElseIfClauseFits, ElseFits, ElseClauseFits, SwitchFits, ClausesFit, SwitchClauseFits, LoopFits, MaybeContinuingFits, ContinuingFits, ForFits, PartFits, WhileFits}
 use Rattle.wgsl_theory_packed.proofs.Told.Forms.{Tells, IsTold, AreTold, tells_of, so, ◌▸◌, same, turned, after_rule, item_form, told_item, told_rule, apart, of_one, of_two, of_three, of_four, told_text, told_span, told_optional, told_further_word, told_list}
 use Rattle.wgsl_theory_packed.proofs.Told.Words.{told_address_space, told_access_mode, told_assignment_operator}
 use Rattle.wgsl_theory_packed.proofs.Told.Expressions.{told_node, told_call, told_type}

@@ -1,15 +1,14 @@
 -- Modules, their directives and their declarations are told apart.
-use Rattle.std.proofs.Common.{ℕ, ◌≡◌, ◌==◌, refl, sym, ap, ◌∙◌, Bool, true, false, if◌then◌else◌, List, [], ◌∷◌, ◌++◌, Option, Some, None}
+use Rattle.std.proofs.Common.{ℕ, ◌≡◌, ◌==◌, refl, sym, ap, ◌∙◌, Bool, true, false, List, [], ◌∷◌, Option, Some, None}
 use Rattle.grammar.specs.Tokens.{Span}
 use Rattle.wgsl_model.specs.Printed.Units.{is_void}
-use Rattle.wgsl_model.specs.Trees.Spanned.{Spanned, spanned}
+use Rattle.wgsl_model.specs.Trees.Spanned.{spanned}
 use Rattle.wgsl_model.specs.Trees.Attributed.{with_attributes, without_attributes}
 use Rattle.wgsl_model.specs.Trees.Attributes.{Attributes}
 use Rattle.wgsl_model.specs.Trees.Expressions.{TypeExpression}
 use Rattle.wgsl_model.specs.Trees.Statements.{assert_of}
-use Rattle.wgsl_model.specs.Trees.Units.{GlobalDirective, UnattributedDirective, diagnostic, enable, requires, StructMember, FormalParameter, Function, GlobalDeclaration, UnattributedDeclaration, void, declaration, type_alias, structure, function, const_assert, TranslationUnit}
+use Rattle.wgsl_model.specs.Trees.Units.{UnattributedDirective, diagnostic, enable, requires, UnattributedDeclaration, void, declaration, type_alias, structure, function, const_assert}
 use Rattle.wgsl_model_packed.specs.Rules.{nothing_rule, names_rule, name_rule, parts_rule, part_rule, empty_end_rule, members_rule, last_member_rule, directives_rule, last_directive_rule, first_declaration_rule, declarations_rule, void_item_rule}
-use Rattle.wgsl_model_packed.specs.Printing.{packed_text, packed_span}
 use Rattle.wgsl_model_packed.specs.Attributes.{packed_attribute_line}
 use Rattle.wgsl_model_packed.specs.Units.{packed_names, packed_directive_after, packed_directive, packed_member, packed_member_node, packed_members, packed_parameter, packed_result, packed_function, packed_declaration_after, packed_global_declaration, packed_declarations, packed_unit}
 use Rattle.wgsl_theory_packed.specs.Fits.{Every, TextFits, SpanFits, AttributesFit, UnattributedDirectiveFits, DirectiveFits, MemberFits, ParameterFits, ResultFits, FunctionFits, UnattributedDeclarationFits, GlobalDeclarationFits, GlobalItemFits, UnitFits}
@@ -70,8 +69,13 @@ told_result a (Some s) h b (Some t) k = so (λ d. (d.0, ap (λ t. Some t) d.1))
 told_result a s h b t k = apart refl
 
 told_function : AreTold FunctionFits packed_function
-told_function f h g k = so (λ d i. record { ident = d.0 i; parameters = d.1.0 i; return_attributes = d.1.1.0.0 i;
-    return_type = d.1.1.0.1 i; body = d.1.1.1 i }) (told_text f.ident h.0 g.ident k.0
+told_function f h g k = so (λ d i. record {
+  ident = d.0 i;
+  parameters = d.1.0 i;
+  return_attributes = d.1.1.0.0 i;
+  return_type = d.1.1.0.1 i;
+  body = d.1.1.1 i;
+}) (told_text f.ident h.0 g.ident k.0
     ▸ told_list nothing_rule parts_rule part_rule refl refl refl told_parameter f.parameters h.1 g.parameters k.1
     ▸ told_result f.return_attributes f.return_type h.2 g.return_attributes g.return_type k.2
     ▸ told_compound f.body h.3 g.body k.3)
