@@ -15,7 +15,7 @@ use Rattle.wgsl_model_packed.specs.Rules.{chain_rule, component_rule, component_
 use Rattle.wgsl_model_packed.specs.Printing.{packed_text, packed_span}
 use Rattle.wgsl_model_packed.specs.Expressions.{packed_literal, component_rule_of, node_rule_before, packed_expression, leftmost, packed_expression_node, packed_expressions, packed_further, packed_call, packed_type}
 use Rattle.wgsl_theory_packed.specs.Fits.{Every, TextFits, SpanFits, LiteralFits, ExpressionFits, NodeFits, CallFits, TypeFits, NodesFit}
-use Rattle.wgsl_theory_packed.proofs.Told.Forms.{Tells, IsTold, AreTold, tells_of, so, ◌▸◌, same, after_rule, told_rule, apart, turned, of_one, of_two, of_three, told_text, told_span}
+use Rattle.wgsl_theory_packed.proofs.Told.Forms.{Tells, IsTold, AreTold, tells_of, so, ◌▸◌, same, after_rule, apart, turned, of_one, of_two, of_three, told_text, told_span}
 use Rattle.wgsl_theory_packed.proofs.Told.Words.{told_unary_operator, told_binary_operator}
 
 -- ---- literals
@@ -86,166 +86,139 @@ other n begin e h = record {
 }
 
 -- ---- chains
--- what follows what is leftmost: a component after the number of its rule, an index, or an operator
--- and its right operand, each with the span of what is before it
+-- what follows what is leftmost: a component, an index, or an operator and its right operand, each
+-- with the span of what is before it
 data Link : Type 0 where
-  component : ℕ → Span → List ℕ → Link
+  component : Span → List ℕ → Link
   index : Span → ExpressionNode → Link
   operation : Span → BinaryOperator → ExpressionNode → Link
 
 abbrev LinkFits : Link → Type 0
-LinkFits (component rule span name) = (rule < index_rule) × SpanFits span × TextFits name
-LinkFits (index span e) = SpanFits span × NodeFits e
-LinkFits (operation span operator e) = SpanFits span × NodeFits e
+LinkFits (component span name) = SpanFits span × TextFits name
+LinkFits (index span i) = SpanFits span × NodeFits i
+LinkFits (operation span operator right) = SpanFits span × NodeFits right
 
-abbrev packed_link : Link → List ℕ
-packed_link (component rule span name) = rule ∷ (packed_span span ++ packed_text name)
-packed_link (index span e) = index_rule ∷ (packed_span span ++ packed_expression_node e)
-packed_link (operation span operator e) = binary_rule
-    ∷ (packed_span span ++ (packed_text (binary_operator_text operator) ++ packed_expression_node e))
+-- an expression with a link after it, and with some
+abbrev with_link : Expression → Link → Expression
+with_link e (component span name) = named_component (expression_node e span) name
+with_link e (index span i) = indexing (expression_node e span) i
+with_link e (operation span operator right) = binary operator (expression_node e span) right
 
-abbrev packed_links : List Link → List ℕ
-packed_links [] = nothing_rule ∷ []
-packed_links (l ∷ ls) = packed_link l ++ packed_links ls
-
--- an expression with links after it
 abbrev linked : Expression → List Link → Expression
 linked e [] = e
-linked e (component rule span name ∷ ls) = linked (named_component (expression_node e span) name) ls
-linked e (index span i ∷ ls) = linked (indexing (expression_node e span) i) ls
-linked e (operation span operator right ∷ ls) = linked (binary operator (expression_node e span) right) ls
+linked e (l ∷ ls) = linked (with_link e l) ls
 
-below : {m n : ℕ} → m < n → (m == n) ≡ false
-below {m} {n} h = ne_eqb m n (λ e. omega (arith, h, e))
+-- the form of a link after an expression, and of some with their end
+abbrev packed_link : Expression → Link → List ℕ
+packed_link e (component span name) = component_rule_of e ∷ (packed_span span ++ packed_text name)
+packed_link e (index span i) = index_rule ∷ (packed_span span ++ packed_expression_node i)
+packed_link e (operation span operator right) = binary_rule
+    ∷ (packed_span span ++ (packed_text (binary_operator_text operator) ++ packed_expression_node right))
 
-component_told : (rule : ℕ) (span : Span) (name : List ℕ) → LinkFits (component rule span name)
-    → IsTold LinkFits packed_link (component rule span name)
-component_told rule span name h (component r s n) k = of_three component (told_rule rule r
-    ▸ told_span span h.1 s k.1 ▸ told_text name h.2 n k.2)
-component_told rule span name h l k = apart (below (omega (arith, h.0)))
+abbrev packed_links : Expression → List Link → List ℕ
+packed_links e [] = nothing_rule ∷ []
+packed_links e (l ∷ ls) = packed_link e l ++ packed_links (with_link e l) ls
 
-index_told : (span : Span) (e : ExpressionNode) → SpanFits span → IsTold NodeFits packed_expression_node e
-    → IsTold LinkFits packed_link (index span e)
-index_told span e h t (component r s n) k = turned (apart (below k.0))
-index_told span e h t (index s d) k = of_two index (after_rule (told_span span h s k.0 ▸ t d k.1))
-index_told span e h t l k = apart refl
+after_link : (e : Expression) (l : Link) (form : List ℕ)
+    → leftmost e ++ (packed_link e l ++ form) ≡ leftmost (with_link e l) ++ form
+after_link e (component span name) form = simp append_assoc
+after_link e (index span i) form = simp append_assoc
+after_link e (operation span operator right) form = simp append_assoc
 
-operation_told : (span : Span) (operator : BinaryOperator) (e : ExpressionNode) → SpanFits span
-    → IsTold NodeFits packed_expression_node e → IsTold LinkFits packed_link (operation span operator e)
-operation_told span operator e h t (component r s n) k = turned (apart (below (omega (arith, k.0))))
-operation_told span operator e h t (operation s o d) k = of_three operation (after_rule
-    (told_span span h s k.0 ▸ told_binary_operator operator o ▸ t d k.1))
-operation_told span operator e h t l k = apart refl
+-- links are told apart, whatever they are after
+abbrev IsLinkTold : Link → Type 0
+IsLinkTold l = (e d : Expression) (m : Link) → LinkFits m → Tells (packed_link e l) (packed_link d m) (l ≡ m)
 
-no_links_told : IsTold (Every LinkFits) packed_links []
-no_links_told [] k = same
-no_links_told (component rule span name ∷ ls) k = turned (apart (below (omega (arith, k.0.0))))
-no_links_told (l ∷ ls) k = apart refl
+abbrev AreLinksTold : List Link → Type 0
+AreLinksTold ls = (e d : Expression) (ms : List Link) → Every LinkFits ms
+    → Tells (packed_links e ls) (packed_links d ms) (ls ≡ ms)
 
-links_told : (l : Link) (ls : List Link) → LinkFits l → Every LinkFits ls → IsTold LinkFits packed_link l
-    → IsTold (Every LinkFits) packed_links ls → IsTold (Every LinkFits) packed_links (l ∷ ls)
-links_told l ls h hs one more [] k = turned (no_links_told (l ∷ ls) (h, hs))
-links_told l ls h hs one more (m ∷ ms) k = of_two ◌∷◌ (one m k.0 ▸ more ms k.1)
+-- the rule of a component is before those of other links
+component_apart : (e : Expression) (n : ℕ) → component_of_int_rule < n → (component_rule_of e == n) ≡ false
+component_apart e n h = go (is_abstract_int e) where
+  go : (b : Bool) → ((if b then component_of_int_rule else component_rule) == n) ≡ false
+  go true = ne_eqb component_of_int_rule n (λ e. omega (arith, h, e))
+  go false = ne_eqb component_rule n (λ e. omega (arith, h, e))
+
+component_told : (span : Span) (name : List ℕ) → SpanFits span → TextFits name → IsLinkTold (component span name)
+component_told span name h f e d (component s n) k =
+    of_two component (after_rule (told_span span h s k.0 ▸ told_text name f n k.1))
+component_told span name h f e d l k = apart (component_apart e _ (omega arith))
+
+index_told : (span : Span) (i : ExpressionNode) → SpanFits span → IsTold NodeFits packed_expression_node i
+    → IsLinkTold (index span i)
+index_told span i h t e d (component s n) k = turned (apart (component_apart d _ (omega arith)))
+index_told span i h t e d (index s j) k = of_two index (after_rule (told_span span h s k.0 ▸ t j k.1))
+index_told span i h t e d l k = apart refl
+
+operation_told : (span : Span) (operator : BinaryOperator) (right : ExpressionNode) → SpanFits span
+    → IsTold NodeFits packed_expression_node right → IsLinkTold (operation span operator right)
+operation_told span operator right h t e d (component s n) k = turned (apart (component_apart d _ (omega arith)))
+operation_told span operator right h t e d (operation s o r) k = of_three operation (after_rule
+    (told_span span h s k.0 ▸ told_binary_operator operator o ▸ t r k.1))
+operation_told span operator right h t e d l k = apart refl
+
+no_links_told : AreLinksTold []
+no_links_told e d [] k = same
+no_links_told e d (component span name ∷ ls) k = turned (apart (component_apart d _ (omega arith)))
+no_links_told e d (l ∷ ls) k = apart refl
+
+links_told : (l : Link) (ls : List Link) → LinkFits l → Every LinkFits ls → IsLinkTold l → AreLinksTold ls
+    → AreLinksTold (l ∷ ls)
+links_told l ls h hs one more e d [] k = turned (no_links_told d e (l ∷ ls) (h, hs))
+links_told l ls h hs one more e d (m ∷ ms) k = of_two ◌∷◌ (one e d m k.0 ▸ more (with_link e l) (with_link d m) ms k.1)
 
 -- what is leftmost in an expression, and links after it, are told from others
-record IsLeftTold (e : Expression) : Type 0 where
-  left : (ls : List Link) → Every LinkFits ls → IsTold (Every LinkFits) packed_links ls
-      → (d : Expression) → ExpressionFits d → (ms : List Link) → Every LinkFits ms
-      → Tells (leftmost e ++ packed_links ls) (leftmost d ++ packed_links ms) (linked e ls ≡ linked d ms)
-
--- a link after what is before it
-after_left : (form span link more : List ℕ) (n : ℕ)
-    → form ++ ((n ∷ (span ++ link)) ++ more) ≡ ((form ++ (n ∷ span)) ++ link) ++ more
-after_left form span link more n = simp append_assoc
-
-small_rule : (e : Expression) → component_rule_of e < index_rule
-small_rule e = go (is_abstract_int e) where
-  go : (b : Bool) → (if b then component_of_int_rule else component_rule) < index_rule
-  go true = omega arith
-  go false = omega arith
+abbrev IsLeftTold : Expression → Type 0
+IsLeftTold e = (ls : List Link) → Every LinkFits ls → AreLinksTold ls → (d : Expression) → ExpressionFits d
+    → (ms : List Link) → Every LinkFits ms
+    → Tells (leftmost e ++ packed_links e ls) (leftmost d ++ packed_links d ms) (linked e ls ≡ linked d ms)
 
 -- where there is no link in an expression, and it is told from others
-left_of_front : (e : Expression)
-    → ((d : Expression) → ExpressionFits d → Tells (leftmost e) (packed_expression d) (e ≡ d))
-    → IsLeftTold e
-left_of_front e front = record { left = go } where
-  go : (ls : List Link) → Every LinkFits ls → IsTold (Every LinkFits) packed_links ls
-      → (d : Expression) → ExpressionFits d → (ms : List Link) → Every LinkFits ms
-      → Tells (leftmost e ++ packed_links ls) (leftmost d ++ packed_links ms) (linked e ls ≡ linked d ms)
-  go ls h t (named_component (expression_node d span) name) k ms f =
-      tells_of refl
-      (after_left (leftmost d) (packed_span span) (packed_text name) (packed_links ms) (component_rule_of d))
-      (go ls h t d k.0.1 (component (component_rule_of d) span name ∷ ms) ((small_rule d, k.0.0, k.1), f))
-  go ls h t (indexing (expression_node d span) i) k ms f =
-      tells_of refl (after_left (leftmost d) (packed_span span) (packed_expression_node i) (packed_links ms) index_rule)
-      (go ls h t d k.0.1 (index span i ∷ ms) ((k.0.0, k.1), f))
-  go ls h t (binary operator (expression_node d span) right) k ms f =
-      tells_of refl (after_left (leftmost d) (packed_span span)
-      (packed_text (binary_operator_text operator) ++ packed_expression_node right) (packed_links ms) binary_rule)
-      (go ls h t d k.0.1 (operation span operator right ∷ ms) ((k.0.0, k.1), f))
-  go ls h t d k ms f = of_two linked (front d k ▸ t ms f)
+left_told : (e : Expression)
+    → ((d : Expression) → ExpressionFits d → Tells (leftmost e) (packed_expression d) (e ≡ d)) → IsLeftTold e
+left_told e t ls h more (named_component (expression_node d s) name) k ms f =
+    let l = component s name in tells_of refl (after_link d l (packed_links (with_link d l) ms))
+    (left_told e t ls h more d k.0.1 (l ∷ ms) ((k.0.0, k.1), f))
+left_told e t ls h more (indexing (expression_node d s) i) k ms f =
+    let l = index s i in tells_of refl (after_link d l (packed_links (with_link d l) ms))
+    (left_told e t ls h more d k.0.1 (l ∷ ms) ((k.0.0, k.1), f))
+left_told e t ls h more (binary operator (expression_node d s) right) k ms f =
+    let l = operation s operator right in tells_of refl (after_link d l (packed_links (with_link d l) ms))
+    (left_told e t ls h more d k.0.1 (l ∷ ms) ((k.0.0, k.1), f))
+left_told e t ls h more d k ms f = of_two linked (t d k ▸ more e d ms f)
 
--- ---- expressions
 record IsExpressionTold (e : Expression) : Type 0 where
   whole : IsTold ExpressionFits packed_expression e
-  front : IsLeftTold e
+  left : IsLeftTold e
 
--- where there is no link in an expression
 no_chain : (e : Expression) → leftmost e ≡ packed_expression e → IsTold ExpressionFits packed_expression e
     → IsExpressionTold e
-no_chain e is t = record { whole = t; front = left_of_front e (λ d k. tells_of (sym is) refl (t d k)) }
+no_chain e is t = record { whole = t; left = left_told e (λ d k. tells_of (sym is) refl (t d k)) }
 
 -- a chain is what is leftmost, the links and their end
-chain_is : (e : Expression) → (sort e ≡ 5) → packed_expression e ≡ chain_rule ∷ (leftmost e ++ packed_links [])
-chain_is (named_component base name) h = simp append_assoc
-chain_is (indexing base i) h = simp append_assoc
-chain_is (binary operator left right) h = simp append_assoc
-chain_is e h = absurd (omega (arith, h))
+chain_is : (e : Expression) (l : Link)
+    → chain_rule ∷ (leftmost (with_link e l) ++ (nothing_rule ∷ [])) ≡ packed_expression (with_link e l)
+chain_is e (component span name) = simp append_assoc
+chain_is e (index span i) = simp append_assoc
+chain_is e (operation span operator right) = simp append_assoc
 
-two_chains : (d e : Expression) → sort d ≡ 5 → sort e ≡ 5 → IsLeftTold d → ExpressionFits e
-    → Tells (packed_expression d) (packed_expression e) (d ≡ e)
-two_chains d e h k t f = tells_of (sym (chain_is d h)) (sym (chain_is e k)) (after_rule
-    (t.left [] tt no_links_told e f [] tt))
+chain : (e : Expression) (l : Link) → LinkFits l → IsLinkTold l → IsLeftTold e → IsExpressionTold (with_link e l)
+chain e l h one t = record { whole = go; left = left } where
+  left : IsLeftTold (with_link e l)
+  left ls f more d k ms g = tells_of (after_link e l (packed_links (with_link e l) ls)) refl
+      (t (l ∷ ls) (h, f) (links_told l ls h f one more) d k ms g)
 
-chain : (e : Expression) → sort e ≡ 5 → IsLeftTold e → IsExpressionTold e
-chain e h t = record { whole = go; front = t } where
-  go : IsTold ExpressionFits packed_expression e
-  go (named_component base name) k = two_chains e (named_component base name) h refl t k
-  go (indexing base i) k = two_chains e (indexing base i) h refl t k
-  go (binary operator left right) k = two_chains e (binary operator left right) h refl t k
-  go d k = tells_of (sym (chain_is e h)) refl (other 5 (λ r. refl) d refl)
+  both : (d : Expression) (m : Link) → ExpressionFits (with_link d m)
+      → Tells (packed_expression (with_link e l)) (packed_expression (with_link d m)) (with_link e l ≡ with_link d m)
+  both d m k = tells_of (chain_is e l) (chain_is d m)
+      (after_rule (left [] tt no_links_told (with_link d m) k [] tt))
 
--- a link after what is leftmost
-one_link : (e c : Expression) (l : Link) → LinkFits l → IsTold LinkFits packed_link l → IsLeftTold e
-    → ((form : List ℕ) → leftmost e ++ (packed_link l ++ form) ≡ leftmost c ++ form)
-    → ((ls : List Link) → linked e (l ∷ ls) ≡ linked c ls) → IsLeftTold c
-one_link e c l h one t same_form same_tree = record {
-  left = λ ls f more d fits ms g. so (λ p. sym (same_tree ls) ∙ p) (tells_of (same_form (packed_links ls)) refl
-      (t.left (l ∷ ls) (h, f) (links_told l ls h f one more) d fits ms g));
-}
-
-component_chain : (e : Expression) (span : Span) (name : List ℕ) → SpanFits span → TextFits name → IsLeftTold e
-    → IsExpressionTold (named_component (expression_node e span) name)
-component_chain e span name h k t =
-    let l : LinkFits (component (component_rule_of e) span name) = (small_rule e, h, k) in
-    chain (named_component (expression_node e span) name) refl
-    (one_link e (named_component (expression_node e span) name) (component (component_rule_of e) span name) l
-    (component_told (component_rule_of e) span name l) t
-    (λ form. after_left (leftmost e) (packed_span span) (packed_text name) form (component_rule_of e)) (λ ls. refl))
-
-index_chain : (e : Expression) (span : Span) (i : ExpressionNode) → SpanFits span → NodeFits i → IsLeftTold e
-    → IsTold NodeFits packed_expression_node i → IsExpressionTold (indexing (expression_node e span) i)
-index_chain e span i h k t one = chain (indexing (expression_node e span) i) refl
-    (one_link e (indexing (expression_node e span) i) (index span i) (h, k) (index_told span i h one) t
-    (λ form. after_left (leftmost e) (packed_span span) (packed_expression_node i) form index_rule) (λ ls. refl))
-
-operation_chain : (e : Expression) (span : Span) (operator : BinaryOperator) (right : ExpressionNode) → SpanFits span
-    → NodeFits right → IsLeftTold e → IsTold NodeFits packed_expression_node right
-    → IsExpressionTold (binary operator (expression_node e span) right)
-operation_chain e span operator right h k t one = chain (binary operator (expression_node e span) right) refl
-    (one_link e (binary operator (expression_node e span) right) (operation span operator right) (h, k)
-    (operation_told span operator right h one) t (λ form. after_left (leftmost e) (packed_span span)
-    (packed_text (binary_operator_text operator) ++ packed_expression_node right) form binary_rule) (λ ls. refl))
+  go : IsTold ExpressionFits packed_expression (with_link e l)
+  go (named_component (expression_node d s) name) k = both d (component s name) k
+  go (indexing (expression_node d s) i) k = both d (index s i) k
+  go (binary operator (expression_node d s) right) k = both d (operation s operator right) k
+  go d k = tells_of (chain_is e l) refl (other 5 (λ r. refl) d refl)
 
 -- ---- expressions without links
 told_literals : (l : LiteralExpression) → LiteralFits l → IsTold ExpressionFits packed_expression (literal l)
@@ -282,12 +255,13 @@ mutual
   told_both (literal l) h = no_chain (literal l) refl (told_literals l h)
   told_both (parenthesized e) h = no_chain (parenthesized e) refl (told_parenthesized e (told_node e h))
   told_both (named_component (expression_node e span) name) h =
-      component_chain e span name h.0.0 h.1 (told_both e h.0.1).front
+      chain e (component span name) (h.0.0, h.1) (component_told span name h.0.0 h.1) (told_both e h.0.1).left
   told_both (indexing (expression_node e span) i) h =
-      index_chain e span i h.0.0 h.1 (told_both e h.0.1).front (told_node i h.1)
+      chain e (index span i) (h.0.0, h.1) (index_told span i h.0.0 (told_node i h.1)) (told_both e h.0.1).left
   told_both (unary operator e) h = no_chain (unary operator e) refl (told_unary operator e (told_node e h))
   told_both (binary operator (expression_node e span) right) h =
-      operation_chain e span operator right h.0.0 h.1 (told_both e h.0.1).front (told_node right h.1)
+      chain e (operation span operator right) (h.0.0, h.1)
+      (operation_told span operator right h.0.0 (told_node right h.1)) (told_both e h.0.1).left
   told_both (function_call c) h = no_chain (function_call c) refl (told_function_call c (told_call c h))
   told_both (type_or_identifier i) h = no_chain (type_or_identifier i) refl (told_identifier i (told_type i h))
 
