@@ -1,6 +1,5 @@
--- Which trees fit in packed forms: their numbers and the lengths of their texts have 64 bits, and
--- what
--- forms leave out is not there: attributes of empty items, and of what a function does not return.
+-- Which trees fit in packed forms: their numbers have 64 bits, and there are no attributes of empty
+-- items, nor of what a function does not return, which forms leave out.
 use Rattle.std.specs.Prelude.{ℕ, ◌≡◌, ◌<◌, ◌^◌, true, List, [], ◌∷◌, length, Option, Some, None, FitsSigned}
 use Rattle.std.specs.Int.{w64}
 use Rattle.std.specs.Option.{IfSome}
@@ -9,8 +8,8 @@ use Rattle.wgsl_model.specs.Printed.Statements.{is_void}
 use Rattle.wgsl_model.specs.Printed.Units as units
 use Rattle.wgsl_model.specs.Trees.Spanned.{Spanned}
 use Rattle.wgsl_model.specs.Trees.Attributed.{Attributed, without_attributes}
-use Rattle.wgsl_model.specs.Trees.Expressions.{LiteralExpression, abstract_int, i32, u32, abstract_float, f32, f16, ExpressionNode, expression_node, Expression, literal, parenthesized, named_component, indexing, unary, binary, function_call, type_or_identifier, FunctionCall, call, TypeExpression, type_expression, TemplateArguments, no_template, template, ExpressionNodes, no_expressions, expression_before}
-use Rattle.wgsl_model.specs.Trees.Attributes.{Attribute, with_argument, diagnostic, workgroup_size, type_constraint, custom, Attributes, TypeConstraint}
+use Rattle.wgsl_model.specs.Trees.Expressions.{LiteralExpression, abstract_int, i32, u32, ExpressionNode, expression_node, Expression, literal, parenthesized, named_component, indexing, unary, binary, function_call, type_or_identifier, FunctionCall, call, TypeExpression, type_expression, no_template, template, ExpressionNodes, no_expressions, expression_before}
+use Rattle.wgsl_model.specs.Trees.Attributes.{Attribute, with_argument, workgroup_size, type_constraint, custom, Attributes, TypeConstraint}
 use Rattle.wgsl_model.specs.Trees.Statements.{Declaration, BreakIfStatement, CaseSelector, default_selector, expression_selector, StatementNode, statement_node, Statement, statement, UnattributedStatement, void, compound, assignment, increment, decrement, if_statement, switch_statement, loop_statement, for_statement, while_statement, return_statement, function_call_statement, const_assert, declaration, CompoundStatement, compound_statement, IfStatement, if_else, IfClause, if_clause, ElseIfClause, else_if_clause, ElseClause, else_clause, SwitchStatement, switch, SwitchClause, switch_clause, LoopStatement, repeat, ContinuingStatement, continuing, ForStatement, repeat_for, WhileStatement, repeat_while, StatementNodes, no_statements, statement_before, ElseIfClauses, no_else_ifs, else_if_before, MaybeElseClause, no_else, one_else, SwitchClauses, no_clauses, clause_before, MaybeContinuing, no_continuing, one_continuing, MaybeStatement, no_statement, one_statement, unattributed}
 use Rattle.wgsl_model.specs.Trees.Units as tree
 
@@ -20,9 +19,6 @@ abbrev pub Every : {X : Type 0} → (X → Type 0) → List X → Type 0
 Every P [] = Unit {0}
 Every P (x ∷ xs) = P x × Every P xs
 
-abbrev pub TextFits : List ℕ → Type 0
-TextFits bytes = length bytes < 2 ^ 64
-
 abbrev pub SpanFits : Span → Type 0
 SpanFits span = (span.start < 2 ^ 64) × (span.end < 2 ^ 64)
 
@@ -31,16 +27,13 @@ abbrev pub LiteralFits : LiteralExpression → Type 0
 LiteralFits (abstract_int n) = FitsSigned w64 n
 LiteralFits (i32 n) = FitsSigned w64 n
 LiteralFits (u32 n) = n < 2 ^ 64
-LiteralFits (abstract_float spelling) = TextFits spelling
-LiteralFits (f32 spelling) = TextFits spelling
-LiteralFits (f16 spelling) = TextFits spelling
 LiteralFits l = Unit {0}
 
 abbrev mutual
   pub ExpressionFits : Expression → Type 0
   ExpressionFits (literal l) = LiteralFits l
   ExpressionFits (parenthesized e) = NodeFits e
-  ExpressionFits (named_component base component) = NodeFits base × TextFits component
+  ExpressionFits (named_component base component) = NodeFits base
   ExpressionFits (indexing base index) = NodeFits base × NodeFits index
   ExpressionFits (unary operator operand) = NodeFits operand
   ExpressionFits (binary operator left right) = NodeFits left × NodeFits right
@@ -54,11 +47,8 @@ abbrev mutual
   CallFits (call ty arguments) = TypeFits ty × NodesFit arguments
 
   pub TypeFits : TypeExpression → Type 0
-  TypeFits (type_expression name arguments) = TextFits name × TemplateFits arguments
-
-  pub TemplateFits : TemplateArguments → Type 0
-  TemplateFits no_template = Unit {0}
-  TemplateFits (template arguments) = NodesFit arguments
+  TypeFits (type_expression name no_template) = Unit {0}
+  TypeFits (type_expression name (template arguments)) = NodesFit arguments
 
   pub NodesFit : ExpressionNodes → Type 0
   NodesFit no_expressions = Unit {0}
@@ -66,14 +56,13 @@ abbrev mutual
 
 -- ---- attributes
 abbrev pub ConstraintFits : TypeConstraint → Type 0
-ConstraintFits t = TextFits t.ident × Every TypeFits t.variants
+ConstraintFits t = Every TypeFits t.variants
 
 abbrev pub AttributeFits : Attribute → Type 0
 AttributeFits (with_argument name e) = NodeFits e
-AttributeFits (diagnostic d) = TextFits d.rule
 AttributeFits (workgroup_size w) = NodeFits w.x × IfSome w.y NodeFits × IfSome w.z NodeFits
 AttributeFits (type_constraint t) = ConstraintFits t
-AttributeFits (custom c) = TextFits c.name × IfSome c.arguments (Every NodeFits)
+AttributeFits (custom c) = IfSome c.arguments (Every NodeFits)
 AttributeFits a = Unit {0}
 
 abbrev pub AttributesFit : Attributes → Type 0
@@ -81,7 +70,7 @@ AttributesFit = Every (λ a. SpanFits a.span × AttributeFits a.node)
 
 -- ---- statements
 abbrev pub DeclarationFits : Declaration → Type 0
-DeclarationFits d = TextFits d.ident × IfSome d.ty TypeFits × IfSome d.initializer NodeFits
+DeclarationFits d = IfSome d.ty TypeFits × IfSome d.initializer NodeFits
 
 abbrev pub BreakIfFits : Attributed BreakIfStatement → Type 0
 BreakIfFits b = AttributesFit b.attributes × NodeFits b.node.expression
@@ -180,19 +169,14 @@ abbrev mutual
   WhileFits (repeat_while e block) = NodeFits e × CompoundFits block
 
 -- ---- modules
-abbrev pub UnattributedDirectiveFits : tree.UnattributedDirective → Type 0
-UnattributedDirectiveFits (tree.diagnostic d) = TextFits d.rule_name
-UnattributedDirectiveFits (tree.enable d) = Every TextFits d.extensions
-UnattributedDirectiveFits (tree.requires d) = Every TextFits d.extensions
-
 abbrev pub DirectiveFits : tree.GlobalDirective → Type 0
-DirectiveFits d = AttributesFit d.attributes × UnattributedDirectiveFits d.node
+DirectiveFits d = AttributesFit d.attributes
 
 abbrev pub MemberFits : tree.StructMember → Type 0
-MemberFits m = AttributesFit m.attributes × TextFits m.ident × TypeFits m.ty
+MemberFits m = AttributesFit m.attributes × TypeFits m.ty
 
 abbrev pub ParameterFits : tree.FormalParameter → Type 0
-ParameterFits p = AttributesFit p.attributes × TextFits p.ident × TypeFits p.ty
+ParameterFits p = AttributesFit p.attributes × TypeFits p.ty
 
 -- what a function returns, without attributes if it is nothing
 abbrev pub ResultFits : Attributes → Option TypeExpression → Type 0
@@ -200,17 +184,15 @@ ResultFits attributes None = attributes ≡ []
 ResultFits attributes (Some t) = AttributesFit attributes × TypeFits t
 
 abbrev pub FunctionFits : tree.Function → Type 0
-FunctionFits f = TextFits f.ident × Every ParameterFits f.parameters
-    × ResultFits f.return_attributes f.return_type × CompoundFits f.body
+FunctionFits f = Every ParameterFits f.parameters × ResultFits f.return_attributes f.return_type × CompoundFits f.body
 
 abbrev pub UnattributedDeclarationFits : tree.UnattributedDeclaration → Type 0
-UnattributedDeclarationFits tree.void = Unit {0}
 UnattributedDeclarationFits (tree.declaration d) = DeclarationFits d
-UnattributedDeclarationFits (tree.type_alias a) = TextFits a.ident × TypeFits a.ty
-UnattributedDeclarationFits (tree.structure s) =
-    TextFits s.ident × Every (λ m. SpanFits m.span × MemberFits m.node) s.members
+UnattributedDeclarationFits (tree.type_alias a) = TypeFits a.ty
+UnattributedDeclarationFits (tree.structure s) = Every (λ m. SpanFits m.span × MemberFits m.node) s.members
 UnattributedDeclarationFits (tree.function f) = FunctionFits f
 UnattributedDeclarationFits (tree.const_assert c) = NodeFits c.expression
+UnattributedDeclarationFits tree.void = Unit {0}
 
 abbrev pub GlobalDeclarationFits : tree.GlobalDeclaration → Type 0
 GlobalDeclarationFits d = AttributesFit d.attributes × UnattributedDeclarationFits d.node
@@ -224,6 +206,7 @@ abbrev pub UnitFits : tree.TranslationUnit → Type 0
 UnitFits u = Every DirectiveFits u.global_directives × Every GlobalItemFits u.global_declarations
 
 -- ---- what is said of trees that fit
--- each is the only one with its packed form
+-- each is the only one with its packed form, if that has fewer than 2^64 bytes
 abbrev pub HaveOwnForms : {Tree : Type 0} → (Tree → Type 0) → (Tree → List ℕ) → Type 0
-HaveOwnForms {Tree} Fit packed = (a b : Tree) → Fit a → Fit b → packed a ≡ packed b → a ≡ b
+HaveOwnForms {Tree} Fit packed = (a b : Tree) → Fit a → Fit b → length (packed a) < 2 ^ 64
+    → packed a ≡ packed b → a ≡ b

@@ -15,8 +15,8 @@ use Rattle.wgsl_theory_packed.proofs.Told.Expressions.{told_node, told_type}
 pub told_constraint : AreTold ConstraintFits packed_type_constraint
 told_constraint t h s k =
     of_two (λ (ident : List ℕ) (variants : List TypeExpression). record { ident = ident; variants = variants })
-    (after_rule (told_text t.ident h.0 s.ident k.0
-    ▸ told_list nothing_rule types_rule part_rule refl refl refl told_type t.variants h.1 s.variants k.1))
+    (after_rule (told_text t.ident s.ident
+    ▸ told_list nothing_rule types_rule part_rule refl refl refl told_type t.variants h s.variants k))
 
 pub told_attribute : AreTold AttributeFits packed_attribute
 told_attribute (with_argument a e) h (with_argument b d) k =
@@ -26,7 +26,7 @@ told_attribute (without_argument a) h (without_argument b) k = of_one without_ar
 told_attribute (builtin a) h (builtin b) k = of_one builtin (after_rule (told_builtin_value a b))
 told_attribute (diagnostic a) h (diagnostic b) k =
     of_two (λ (severity : DiagnosticSeverity) (rule : List ℕ). diagnostic (record { severity = severity; rule = rule }))
-    (after_rule (told_severity a.severity b.severity ▸ told_text a.rule h b.rule k))
+    (after_rule (told_severity a.severity b.severity ▸ told_text a.rule b.rule))
 told_attribute (interpolate a) h (interpolate b) k =
     of_two (λ (ty : InterpolationType) (sampling : Option InterpolationSampling).
     interpolate (record { ty = ty; sampling = sampling }))
@@ -40,9 +40,9 @@ told_attribute (type_constraint a) h (type_constraint b) k =
     of_one type_constraint (after_rule (told_constraint a h b k))
 told_attribute (custom a) h (custom b) k =
     of_two (λ (name : List ℕ) (arguments : Option (List ExpressionNode)).
-    custom (record { name = name; arguments = arguments })) (after_rule (told_text a.name h.0 b.name k.0
+    custom (record { name = name; arguments = arguments })) (after_rule (told_text a.name b.name
     ▸ told_optional arguments_rule refl (told_list nothing_rule nodes_rule node_rule refl refl refl told_node)
-    a.arguments h.1 b.arguments k.1))
+    a.arguments h b.arguments k))
 told_attribute a h b k = apart refl
 
 abbrev AttributeNodeFits : Spanned Attribute → Type 0

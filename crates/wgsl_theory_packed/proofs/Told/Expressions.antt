@@ -2,7 +2,7 @@
 -- follow.
 use Rattle.std.proofs.Common.{ℕ, ℤ, ◌≡◌, ◌==◌, ◌<◌, ◌^◌, refl, sym, ap, ◌∙◌, Bool, true, false, if◌then◌else◌, List, [], ◌∷◌, ◌++◌, append_assoc, get_or, arith, ne_eqb}
 use Rattle.std.proofs.lemmas.Bool.{eqb-false}
-use Rattle.std.proofs.lemmas.Fmt.{decimal_injective, signed_decimal_injective, length-decimal-le, length_signed_le}
+use Rattle.std.proofs.lemmas.Fmt.{decimal_injective, signed_decimal_injective}
 use Rattle.std.specs.Int.{w64}
 use Rattle.std.specs.Int.RustNames.{FitsSigned}
 use Rattle.std.specs.Fmt.{decimal, signed_decimal}
@@ -14,23 +14,19 @@ use Rattle.wgsl_model.specs.Trees.Expressions.{LiteralExpression, boolean, abstr
 use Rattle.wgsl_model_packed.specs.Rules.{chain_rule, component_rule, component_of_int_rule, index_rule, binary_rule, nothing_rule, unary_rule, unary_apart_rule}
 use Rattle.wgsl_model_packed.specs.Printing.{packed_text, packed_span}
 use Rattle.wgsl_model_packed.specs.Expressions.{packed_literal, component_rule_of, node_rule_before, packed_expression, leftmost, packed_expression_node, packed_expressions, packed_further, packed_call, packed_type}
-use Rattle.wgsl_theory_packed.specs.Fits.{Every, TextFits, SpanFits, LiteralFits, ExpressionFits, NodeFits, CallFits, TypeFits, NodesFit}
+use Rattle.wgsl_theory_packed.specs.Fits.{Every, SpanFits, LiteralFits, ExpressionFits, NodeFits, CallFits, TypeFits, NodesFit}
 use Rattle.wgsl_theory_packed.proofs.Told.Forms.{Tells, IsTold, AreTold, tells_of, so, ◌▸◌, same, after_rule, apart, turned, of_one, of_two, of_three, told_text, told_span}
 use Rattle.wgsl_theory_packed.proofs.Told.Words.{told_unary_operator, told_binary_operator}
 
 -- ---- literals
 told_signed : (m n : ℤ) → FitsSigned w64 m → FitsSigned w64 n
     → Tells (packed_text (signed_decimal m)) (packed_text (signed_decimal n)) (m ≡ n)
-told_signed m n h k = so (signed_decimal_injective m n h.sfits k.sfits) (told_text (signed_decimal m) (small m h)
-    (signed_decimal n) (small n k)) where
-      small : (m : ℤ) → FitsSigned w64 m → TextFits (signed_decimal m)
-      small m h = omega (arith, length_signed_le 20 m (omega (arith, h.sfits)) h.sfits)
+told_signed m n h k =
+    so (signed_decimal_injective m n h.sfits k.sfits) (told_text (signed_decimal m) (signed_decimal n))
 
 told_natural : (m n : ℕ) → m < 2 ^ 64 → n < 2 ^ 64
     → Tells (packed_text (decimal m)) (packed_text (decimal n)) (m ≡ n)
-told_natural m n h k = so (decimal_injective m n h k) (told_text (decimal m) (small m h) (decimal n) (small n k)) where
-  small : (m : ℕ) → m < 2 ^ 64 → TextFits (decimal m)
-  small m h = omega (arith, length-decimal-le 20 m (omega arith) (omega (arith, h)) h)
+told_natural m n h k = so (decimal_injective m n h k) (told_text (decimal m) (decimal n))
 
 told_literal : AreTold LiteralFits packed_literal
 told_literal (boolean true) h (boolean true) k = same
@@ -38,9 +34,9 @@ told_literal (boolean false) h (boolean false) k = same
 told_literal (abstract_int m) h (abstract_int n) k = of_one abstract_int (after_rule (told_signed m n h k))
 told_literal (i32 m) h (i32 n) k = of_one i32 (after_rule (told_signed m n h k))
 told_literal (u32 m) h (u32 n) k = of_one u32 (after_rule (told_natural m n h k))
-told_literal (abstract_float a) h (abstract_float b) k = of_one abstract_float (after_rule (told_text a h b k))
-told_literal (f32 a) h (f32 b) k = of_one f32 (after_rule (told_text a h b k))
-told_literal (f16 a) h (f16 b) k = of_one f16 (after_rule (told_text a h b k))
+told_literal (abstract_float a) h (abstract_float b) k = of_one abstract_float (after_rule (told_text a b))
+told_literal (f32 a) h (f32 b) k = of_one f32 (after_rule (told_text a b))
+told_literal (f16 a) h (f16 b) k = of_one f16 (after_rule (told_text a b))
 told_literal l h (boolean true) k = apart refl
 told_literal l h (boolean false) k = apart refl
 told_literal l h m k = apart refl
@@ -82,7 +78,7 @@ begins e r = refl
 other : {f : List ℕ} {E : Type 0} (n : ℕ) → ((r : List ℕ) → begun (f ++ r) ≡ n) → (e : Expression)
     → (n == sort e) ≡ false → Tells f (packed_expression e) E
 other n begin e h = record {
-  told = λ r s d. absurd (eqb-false n (sort e) h (sym (begin r) ∙ ap begun d ∙ begins e s));
+  told = λ r s small d. absurd (eqb-false n (sort e) h (sym (begin r) ∙ ap begun d ∙ begins e s));
 }
 
 -- ---- chains
@@ -94,7 +90,7 @@ data Link : Type 0 where
   operation : Span → BinaryOperator → ExpressionNode → Link
 
 abbrev LinkFits : Link → Type 0
-LinkFits (component span name) = SpanFits span × TextFits name
+LinkFits (component span name) = SpanFits span
 LinkFits (index span i) = SpanFits span × NodeFits i
 LinkFits (operation span operator right) = SpanFits span × NodeFits right
 
@@ -140,10 +136,10 @@ component_apart e n h = go (is_abstract_int e) where
   go true = ne_eqb component_of_int_rule n (λ e. omega (arith, h, e))
   go false = ne_eqb component_rule n (λ e. omega (arith, h, e))
 
-component_told : (span : Span) (name : List ℕ) → SpanFits span → TextFits name → IsLinkTold (component span name)
-component_told span name h f e d (component s n) k =
-    of_two component (after_rule (told_span span h s k.0 ▸ told_text name f n k.1))
-component_told span name h f e d l k = apart (component_apart e _ (omega arith))
+component_told : (span : Span) (name : List ℕ) → SpanFits span → IsLinkTold (component span name)
+component_told span name h e d (component s n) k =
+    of_two component (after_rule (told_span span h s k ▸ told_text name n))
+component_told span name h e d l k = apart (component_apart e _ (omega arith))
 
 index_told : (span : Span) (i : ExpressionNode) → SpanFits span → IsTold NodeFits packed_expression_node i
     → IsLinkTold (index span i)
@@ -179,7 +175,7 @@ left_told : (e : Expression)
     → ((d : Expression) → ExpressionFits d → Tells (leftmost e) (packed_expression d) (e ≡ d)) → IsLeftTold e
 left_told e t ls h more (named_component (expression_node d s) name) k ms f =
     let l = component s name in tells_of refl (after_link d l (packed_links (with_link d l) ms))
-    (left_told e t ls h more d k.0.1 (l ∷ ms) ((k.0.0, k.1), f))
+    (left_told e t ls h more d k.1 (l ∷ ms) (k.0, f))
 left_told e t ls h more (indexing (expression_node d s) i) k ms f =
     let l = index s i in tells_of refl (after_link d l (packed_links (with_link d l) ms))
     (left_told e t ls h more d k.0.1 (l ∷ ms) ((k.0.0, k.1), f))
@@ -255,7 +251,7 @@ mutual
   told_both (literal l) h = no_chain (literal l) refl (told_literals l h)
   told_both (parenthesized e) h = no_chain (parenthesized e) refl (told_parenthesized e (told_node e h))
   told_both (named_component (expression_node e span) name) h =
-      chain e (component span name) (h.0.0, h.1) (component_told span name h.0.0 h.1) (told_both e h.0.1).left
+      chain e (component span name) h.0 (component_told span name h.0) (told_both e h.1).left
   told_both (indexing (expression_node e span) i) h =
       chain e (index span i) (h.0.0, h.1) (index_told span i h.0.0 (told_node i h.1)) (told_both e h.0.1).left
   told_both (unary operator e) h = no_chain (unary operator e) refl (told_unary operator e (told_node e h))
@@ -292,11 +288,12 @@ mutual
 
   pub told_type : AreTold TypeFits packed_type
   told_type (type_expression a no_template) h (type_expression b no_template) k =
-      of_one (λ name. type_expression name no_template) (after_rule (told_text a h.0 b k.0))
+      of_one (λ name. type_expression name no_template) (after_rule (told_text a b))
   told_type (type_expression a (template es)) h (type_expression b (template ds)) k =
       of_two (λ name arguments. type_expression name (template arguments))
-      (after_rule (told_text a h.0 b k.0 ▸ told_nodes es h.1 ds k.1))
-  told_type t h s k = apart refl
+      (after_rule (told_text a b ▸ told_nodes es h ds k))
+  told_type (type_expression a no_template) h (type_expression b (template ds)) k = apart refl
+  told_type (type_expression a (template es)) h (type_expression b no_template) k = apart refl
 
 pub told_expression : AreTold ExpressionFits packed_expression
 told_expression e h = (told_both e h).whole

@@ -1,5 +1,5 @@
 -- Forms that are told apart, whatever follows them.
-use Rattle.std.proofs.Common.{ℕ, ◌≡◌, ◌==◌, ◌<◌, ◌^◌, refl, sym, ap, subst, ◌∙◌, Bool, true, false, if◌then◌else◌, List, [], ◌∷◌, ◌++◌, append_assoc, append-nil, length, take, drop, get_or, Option, Some, None}
+use Rattle.std.proofs.Common.{ℕ, ◌≡◌, ◌==◌, ◌<◌, ◌^◌, refl, sym, ap, subst, ◌∙◌, Bool, true, false, if◌then◌else◌, List, [], ◌∷◌, ◌++◌, append_assoc, append-nil, length, take, drop, get_or, Option, Some, None, arith, length-append}
 use Rattle.std.proofs.Math.Seq.{take-append_seam, drop-append_seam}
 use Rattle.std.proofs.lemmas.List.{append_cancel_left}
 use Rattle.std.proofs.lemmas.Bool.{eqb-false}
@@ -10,11 +10,13 @@ use Rattle.grammar.specs.Tokens.{Span}
 use Rattle.wgsl_model_packed.specs.Rules.{nothing_rule, void_item_rule}
 use Rattle.wgsl_model_packed.specs.Printing.{packed_number, packed_text, packed_span}
 use Rattle.wgsl_model_packed.specs.Expressions.{packed_optional, rule_before, packed_items, packed_list}
-use Rattle.wgsl_theory_packed.specs.Fits.{Every, TextFits, SpanFits, HaveOwnForms}
+use Rattle.wgsl_theory_packed.specs.Fits.{Every, SpanFits, HaveOwnForms}
 
--- where two forms are equal, whatever follows each, E holds, and what follows is equal
+-- where two forms of fewer than 2^64 bytes are equal, whatever follows each, E holds, and what
+-- follows
+-- is equal
 pub record Tells (f g : List ℕ) (E : Type 0) : Type 0 where
-  pub told : (r s : List ℕ) → f ++ r ≡ g ++ s → E × (r ≡ s)
+  pub told : (r s : List ℕ) → length (f ++ r) < 2 ^ 64 → f ++ r ≡ g ++ s → E × (r ≡ s)
 
 -- the form of a tree is told from those of others
 abbrev pub IsTold : {X : Type 0} → (X → Type 0) → (X → List ℕ) → X → Type 0
@@ -25,8 +27,8 @@ abbrev pub AreTold : {X : Type 0} → (X → Type 0) → (X → List ℕ) → Ty
 AreTold {X} Fit packed = (x : X) → Fit x → IsTold Fit packed x
 
 pub own_forms : {X : Type 0} (Fit : X → Type 0) (packed : X → List ℕ) → AreTold Fit packed → HaveOwnForms Fit packed
-own_forms Fit packed told a b h k e =
-    ((told a h b k).told [] [] (append-nil (packed a) ∙ e ∙ sym (append-nil (packed b)))).0
+own_forms Fit packed told a b h k small e = ((told a h b k).told [] [] (rw append-nil small)
+    (append-nil (packed a) ∙ e ∙ sym (append-nil (packed b)))).0
 
 -- the same forms, written otherwise
 pub tells_of : {f g h k : List ℕ} {E : Type 0} → f ≡ h → g ≡ k → Tells f g E → Tells h k E
@@ -35,37 +37,44 @@ tells_of {g = g} {h = h} {E = E} p q one =
 
 -- what follows from what is told
 pub so : {f g : List ℕ} {D E : Type 0} → (D → E) → Tells f g D → Tells f g E
-so c one = record { told = λ r s e. (let d = one.told r s e in (c d.0, d.1)) }
+so c one = record { told = λ r s small e. (let d = one.told r s small e in (c d.0, d.1)) }
 
 -- ---- parts
+-- the end of a form has fewer bytes
+ends_small : (f r : List ℕ) → length (f ++ r) < 2 ^ 64 → length r < 2 ^ 64
+ends_small f r small = omega (arith, length-append f r)
+
 -- forms of two parts
 infixr 10 ◌▸◌
 pub ◌▸◌ : {f g h k : List ℕ} {D E : Type 0} → Tells f g D → Tells h k E → Tells (f ++ h) (g ++ k) (D × E)
 ◌▸◌ {f} {g} {h} {k} one two = record {
-  told = λ r s e. (
-      let first = one.told (h ++ r) (k ++ s) (sym (append_assoc f h r) ∙ e ∙ append_assoc g k s) in
-      let second = two.told r s first.1 in
+  told = λ r s small e. (
+      let all : length (f ++ (h ++ r)) < 2 ^ 64 = rw append_assoc at small in
+      let first = one.told (h ++ r) (k ++ s) all (sym (append_assoc f h r) ∙ e ∙ append_assoc g k s) in
+      let second = two.told r s (ends_small f (h ++ r) all) first.1 in
       ((first.0, second.0), second.1));
 }
 
 -- the same form of one thing
 pub same : {X : Type 0} {f : List ℕ} {x : X} → Tells f f (x ≡ x)
-same {f = f} = record { told = λ r s e. (refl, append_cancel_left f r s e) }
+same {f = f} = record { told = λ r s small e. (refl, append_cancel_left f r s e) }
 
 -- rules before forms that are told apart without them
 pub after_rule : {m n : ℕ} {f g : List ℕ} {E : Type 0} → Tells f g E → Tells (m ∷ f) (n ∷ g) E
-after_rule one = record { told = λ r s e. one.told r s (ap (drop 1) e) }
+after_rule one = record { told = λ r s small e. one.told r s (omega (arith, small)) (ap (drop 1) e) }
 
 -- two rules
 pub told_rule : (m n : ℕ) → Tells (m ∷ []) (n ∷ []) (m ≡ n)
-told_rule m n = record { told = λ r s e. (ap (λ l. get_or l 0 0) e, ap (drop 1) e) }
+told_rule m n = record { told = λ r s small e. (ap (λ l. get_or l 0 0) e, ap (drop 1) e) }
 
 pub apart : {m n : ℕ} {f g : List ℕ} {E : Type 0} → (m == n) ≡ false → Tells (m ∷ f) (n ∷ g) E
-apart {m} {n} h = record { told = λ r s e. absurd (eqb-false m n h (ap (λ l. get_or l 0 0) e)) }
+apart {m} {n} h = record { told = λ r s small e. absurd (eqb-false m n h (ap (λ l. get_or l 0 0) e)) }
 
 -- told the other way round
 pub turned : {X : Type 0} {f g : List ℕ} {x y : X} → Tells f g (x ≡ y) → Tells g f (y ≡ x)
-turned one = record { told = λ r s e. (let d = one.told s r (sym e) in (sym d.0, sym d.1)) }
+turned one = record {
+  told = λ r s small e. (let d = one.told s r (rw e at small) (sym e) in (sym d.0, sym d.1));
+}
 
 -- nodes that are made of one part and more
 pub of_one : {A X : Type 0} {f g : List ℕ} {a b : A} (node : A → X) → Tells f g (a ≡ b) → Tells f g (node a ≡ node b)
@@ -86,7 +95,7 @@ of_four node = so (λ d i. node (d.0 i) (d.1.0 i) (d.1.1.0 i) (d.1.1.1 i))
 -- ---- numbers, texts and spans
 pub told_number : AreTold (λ n. n < 2 ^ 64) packed_number
 told_number m h n k = record {
-  told = λ r s e. (
+  told = λ r s small e. (
     sym (from_le_bytes-to_le_bytes_8 m h) ∙ ap (λ l. from_le_bytes w64 (take 8 l)) e
         ∙ from_le_bytes-to_le_bytes_8 n k,
     ap (drop 8) e,
@@ -99,11 +108,11 @@ told_bytes a b r s l e = (
   sym (drop-append_seam a r) ∙ (λ i. drop (l i) (e i)) ∙ drop-append_seam b s,
 )
 
-pub told_text : AreTold TextFits packed_text
-told_text a h b k = record {
-  told = λ r s e. (
-      let size = (told_number (length a) h (length b) k).told (a ++ r) (b ++ s)
-      (sym (append_assoc (packed_number (length a)) a r) ∙ e ∙ append_assoc (packed_number (length b)) b s) in
+pub told_text : (a b : List ℕ) → Tells (packed_text a) (packed_text b) (a ≡ b)
+told_text a b = record {
+  told = λ r s small e. (
+      let size = (told_number (length a) (omega (arith, small, length-append a r)) (length b)
+      (omega (arith, small, ap length e, length-append b s))).told (a ++ r) (b ++ s) small e in
       told_bytes a b r s size.0 size.1);
 }
 

@@ -1,5 +1,5 @@
 -- Declarations of values and statements are told apart.
-use Rattle.std.proofs.Common.{ℕ, ◌≡◌, ◌==◌, ◌<◌, refl, sym, ap, ◌∙◌, Bool, true, false, if◌then◌else◌, List, [], ◌∷◌, ◌++◌, append_assoc, Option, arith, ne_eqb}
+use Rattle.std.proofs.Common.{ℕ, ◌≡◌, ◌==◌, ◌<◌, refl, sym, ap, ◌∙◌, Bool, true, false, if◌then◌else◌, List, [], ◌∷◌, ◌++◌, append_assoc, Option, arith, ne_eqb, length, ◌^◌}
 use Rattle.grammar.specs.Tokens.{Span}
 use Rattle.wgsl_model.specs.Printed.Statements.{is_void}
 use Rattle.wgsl_model.specs.Trees.NamedValues.{AddressSpace, AccessMode}
@@ -33,9 +33,9 @@ told_kind k l = after_rule (apart refl)
 pub told_declaration : AreTold DeclarationFits packed_declaration
 told_declaration d h e k = of_four (λ kind ident ty initializer.
     record { kind = kind; ident = ident; ty = ty; initializer = initializer })
-    (told_kind d.kind e.kind ▸ told_text d.ident h.0 e.ident k.0
-    ▸ told_optional typed_rule refl told_type d.ty h.1 e.ty k.1
-    ▸ told_optional initializer_rule refl told_node d.initializer h.2 e.initializer k.2)
+    (told_kind d.kind e.kind ▸ told_text d.ident e.ident
+    ▸ told_optional typed_rule refl told_type d.ty h.0 e.ty k.0
+    ▸ told_optional initializer_rule refl told_node d.initializer h.1 e.initializer k.1)
 
 pub told_break_if : AreTold BreakIfFits packed_break_if
 told_break_if a h b k = of_two (λ attributes e. with_attributes attributes (break_if_of e)) (after_rule
@@ -52,6 +52,13 @@ abbrev opened : List ℕ → List ℕ
 opened [] = []
 opened (n ∷ form) = if n == ended_rule then form else n ∷ form
 
+opened_small : (form : List ℕ) → length form < 2 ^ 64 → length (opened form) < 2 ^ 64
+opened_small [] h = h
+opened_small (n ∷ form) h = go (n == ended_rule) where
+  go : (b : Bool) → length (if b then form else n ∷ form) < 2 ^ 64
+  go true = omega (arith, h)
+  go false = h
+
 opened_is : (a : Attributes) (x : UnattributedStatement) (r : List ℕ)
     → opened (packed_statement (statement a x) ++ r) ≡ packed_after a x ++ r
 opened_is a void r = refl
@@ -61,7 +68,8 @@ ended_told : {E : Type 0} (a : Attributes) (x : UnattributedStatement) (b : Attr
     → Tells (packed_after a x) (packed_after b y) E
     → Tells (packed_statement (statement a x)) (packed_statement (statement b y)) E
 ended_told a x b y one = record {
-  told = λ r s e. one.told r s (sym (opened_is a x r) ∙ ap opened e ∙ opened_is b y s);
+  told = λ r s small e. one.told r s (rw opened_is at (opened_small _ small))
+      (sym (opened_is a x r) ∙ ap opened e ∙ opened_is b y s);
 }
 
 -- ---- blocks

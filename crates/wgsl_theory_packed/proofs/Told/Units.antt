@@ -11,7 +11,7 @@ use Rattle.wgsl_model.specs.Trees.Units.{UnattributedDirective, diagnostic, enab
 use Rattle.wgsl_model_packed.specs.Rules.{nothing_rule, names_rule, name_rule, parts_rule, part_rule, empty_end_rule, members_rule, last_member_rule, directives_rule, last_directive_rule, first_declaration_rule, declarations_rule, void_item_rule}
 use Rattle.wgsl_model_packed.specs.Attributes.{packed_attribute_line}
 use Rattle.wgsl_model_packed.specs.Units.{packed_names, packed_directive_after, packed_directive, packed_member, packed_member_node, packed_members, packed_parameter, packed_result, packed_function, packed_declaration_after, packed_global_declaration, packed_declarations, packed_unit}
-use Rattle.wgsl_theory_packed.specs.Fits.{Every, TextFits, SpanFits, AttributesFit, UnattributedDirectiveFits, DirectiveFits, MemberFits, ParameterFits, ResultFits, FunctionFits, UnattributedDeclarationFits, GlobalDeclarationFits, GlobalItemFits, UnitFits}
+use Rattle.wgsl_theory_packed.specs.Fits.{Every, SpanFits, AttributesFit, DirectiveFits, MemberFits, ParameterFits, ResultFits, FunctionFits, UnattributedDeclarationFits, GlobalDeclarationFits, GlobalItemFits, UnitFits}
 use Rattle.wgsl_theory_packed.proofs.Told.Forms.{Tells, AreTold, so, ◌▸◌, same, turned, after_rule, item_form, told_item, apart, of_one, of_two, of_three, told_text, told_span, told_list}
 use Rattle.wgsl_theory_packed.proofs.Told.Words.{told_severity}
 use Rattle.wgsl_theory_packed.proofs.Told.Expressions.{told_node, told_type}
@@ -19,40 +19,43 @@ use Rattle.wgsl_theory_packed.proofs.Told.Attributes.{told_attribute_line, told_
 use Rattle.wgsl_theory_packed.proofs.Told.Statements.{told_declaration, told_compound}
 
 -- ---- directives
-told_names : AreTold (Every TextFits) packed_names
-told_names = told_list nothing_rule names_rule name_rule refl refl refl told_text
+each : (names : List (List ℕ)) → Every (λ name. Unit {0}) names
+each [] = tt
+each (name ∷ names) = (tt, each names)
 
-told_directive_after : (x : UnattributedDirective) → UnattributedDirectiveFits x → (a : Attributes) → AttributesFit a
-    → (y : UnattributedDirective) → UnattributedDirectiveFits y → (b : Attributes) → AttributesFit b
-    → Tells (packed_directive_after (packed_attribute_line a) x) (packed_directive_after (packed_attribute_line b) y)
-    (with_attributes a x ≡ with_attributes b y)
-told_directive_after (diagnostic x) h a f (diagnostic y) k b g = of_three
-    (λ attributes severity rule_name. with_attributes attributes
-    (diagnostic (record { severity = severity; rule_name = rule_name }))) (after_rule (told_attribute_line a f b g
-    ▸ told_severity x.severity y.severity ▸ told_text x.rule_name h y.rule_name k))
-told_directive_after (enable x) h a f (enable y) k b g =
-    of_two (λ attributes names. with_attributes attributes (enable (record { extensions = names })))
-    (after_rule (told_attribute_line a f b g ▸ told_names x.extensions h y.extensions k))
-told_directive_after (requires x) h a f (requires y) k b g =
-    of_two (λ attributes names. with_attributes attributes (requires (record { extensions = names })))
-    (after_rule (told_attribute_line a f b g ▸ told_names x.extensions h y.extensions k))
-told_directive_after x h a f y k b g = apart refl
+told_names : (a b : List (List ℕ)) → Tells (packed_names a) (packed_names b) (a ≡ b)
+told_names a b = told_list {Fit = λ name. Unit {0}} nothing_rule names_rule name_rule refl refl refl
+    (λ a h b k. told_text a b) a (each a) b (each b)
 
 pub told_directive : AreTold DirectiveFits packed_directive
-told_directive x h y k = told_directive_after x.node h.1 x.attributes h.0 y.node k.1 y.attributes k.0
+told_directive x h y k = told x.node x.attributes h y.node y.attributes k where
+  told : (x : UnattributedDirective) (a : Attributes) → AttributesFit a → (y : UnattributedDirective) (b : Attributes)
+      → AttributesFit b → Tells (packed_directive_after (packed_attribute_line a) x)
+      (packed_directive_after (packed_attribute_line b) y) (with_attributes a x ≡ with_attributes b y)
+  told (diagnostic x) a h (diagnostic y) b k = of_three (λ attributes severity rule_name.
+      with_attributes attributes (diagnostic (record { severity = severity; rule_name = rule_name })))
+      (after_rule (told_attribute_line a h b k
+      ▸ told_severity x.severity y.severity ▸ told_text x.rule_name y.rule_name))
+  told (enable x) a h (enable y) b k =
+      of_two (λ attributes names. with_attributes attributes (enable (record { extensions = names })))
+      (after_rule (told_attribute_line a h b k ▸ told_names x.extensions y.extensions))
+  told (requires x) a h (requires y) b k =
+      of_two (λ attributes names. with_attributes attributes (requires (record { extensions = names })))
+      (after_rule (told_attribute_line a h b k ▸ told_names x.extensions y.extensions))
+  told x a h y b k = apart refl
 
 -- ---- members, parameters and functions
 pub told_member : AreTold MemberFits packed_member
 told_member m h n k =
     of_three (λ attributes ident ty. record { attributes = attributes; ident = ident; ty = ty })
     (after_rule (told_attribute_line m.attributes h.0 n.attributes k.0
-    ▸ told_text m.ident h.1 n.ident k.1 ▸ told_type m.ty h.2 n.ty k.2))
+    ▸ told_text m.ident n.ident ▸ told_type m.ty h.1 n.ty k.1))
 
 pub told_parameter : AreTold ParameterFits packed_parameter
 told_parameter p h q k =
     of_three (λ attributes ident ty. record { attributes = attributes; ident = ident; ty = ty })
     (after_rule (told_attributes_before p.attributes h.0 q.attributes k.0
-    ▸ told_text p.ident h.1 q.ident k.1 ▸ told_type p.ty h.2 q.ty k.2))
+    ▸ told_text p.ident q.ident ▸ told_type p.ty h.1 q.ty k.1))
 
 told_member_node : AreTold (λ m. SpanFits m.span × MemberFits m.node) packed_member_node
 told_member_node m h n k = of_two (λ span node. spanned node span)
@@ -75,10 +78,10 @@ told_function f h g k = so (λ d i. record {
   return_attributes = d.1.1.0.0 i;
   return_type = d.1.1.0.1 i;
   body = d.1.1.1 i;
-}) (told_text f.ident h.0 g.ident k.0
-    ▸ told_list nothing_rule parts_rule part_rule refl refl refl told_parameter f.parameters h.1 g.parameters k.1
-    ▸ told_result f.return_attributes f.return_type h.2 g.return_attributes g.return_type k.2
-    ▸ told_compound f.body h.3 g.body k.3)
+}) (told_text f.ident g.ident
+    ▸ told_list nothing_rule parts_rule part_rule refl refl refl told_parameter f.parameters h.0 g.parameters k.0
+    ▸ told_result f.return_attributes f.return_type h.1 g.return_attributes g.return_type k.1
+    ▸ told_compound f.body h.2 g.body k.2)
 
 -- ---- declarations
 told_declaration_after : (x : UnattributedDeclaration) → UnattributedDeclarationFits x → (a : Attributes)
@@ -93,11 +96,11 @@ told_declaration_after (declaration x) h a f (declaration y) k b g =
 told_declaration_after (type_alias x) h a f (type_alias y) k b g =
     of_three (λ attributes ident ty. with_attributes attributes (type_alias (record { ident = ident; ty = ty })))
     (after_rule (told_attribute_line a f b g
-    ▸ told_text x.ident h.0 y.ident k.0 ▸ told_type x.ty h.1 y.ty k.1))
+    ▸ told_text x.ident y.ident ▸ told_type x.ty h y.ty k))
 told_declaration_after (structure x) h a f (structure y) k b g =
     of_three (λ attributes ident members. with_attributes attributes
     (structure (record { ident = ident; members = members }))) (after_rule (told_attribute_line a f b g
-    ▸ told_text x.ident h.0 y.ident k.0 ▸ told_members x.members h.1 y.members k.1))
+    ▸ told_text x.ident y.ident ▸ told_members x.members h y.members k))
 told_declaration_after (function x) h a f (function y) k b g =
     of_two (λ attributes its. with_attributes attributes (function its))
     (after_rule (told_attribute_line a f b g ▸ told_function x h y k))

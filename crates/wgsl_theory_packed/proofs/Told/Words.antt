@@ -1,6 +1,5 @@
 -- Words and the texts of numbers are told apart.
-use Rattle.std.proofs.Common.{ℕ, ◌≡◌, ◌^◌, refl, sym, ap, ◌∙◌, true, List, [], ◌∷◌, length, Some, ltb-true}
-use Rattle.std.specs.Prelude.{nat_lt}
+use Rattle.std.proofs.Common.{ℕ, ◌≡◌, refl, sym, ap, ◌∙◌, List, [], ◌∷◌, Some}
 use Rattle.wgsl_model.specs.Tokens.Words.{look_up}
 use Rattle.wgsl_model.specs.Trees.NamedValues.{WordTable, with_words, error, severity_text, severities, function, address_space_text, address_spaces, read, access_mode_text, access_modes, vertex_index, builtin_value_text, builtin_values, perspective, interpolation_type_text, interpolation_types, center, interpolation_sampling_text, interpolation_samplings}
 use Rattle.wgsl_model.specs.Trees.Attributes.{align, one_argument_text, one_argument_attributes, const_attribute, no_argument_text, no_argument_attributes}
@@ -9,10 +8,6 @@ use Rattle.wgsl_model.specs.Printed.Operators.{unary_operator_text, binary_opera
 use Rattle.wgsl_model_packed.specs.Printing.{packed_text}
 use Rattle.wgsl_theory_packed.proofs.Told.Forms.{Tells, told_text, so}
 
--- a word is found in a table, and has few bytes
-abbrev IsRow : {W : Type 0} → (W → List ℕ) → WordTable W → W → Type 0
-IsRow text table w = (look_up table (text w) ≡ Some w) × (nat_lt (length (text w)) (2 ^ 64) ≡ true)
-
 some_is : {W : Type 0} (v w : W) → Some v ≡ Some w → v ≡ w
 some_is v w e = cc
 
@@ -20,9 +15,10 @@ some_is v w e = cc
 abbrev pub AreWordsTold : {W : Type 0} → (W → List ℕ) → Type 0
 AreWordsTold {W} text = (v w : W) → Tells (packed_text (text v)) (packed_text (text w)) (v ≡ w)
 
-told_word : {W : Type 0} (text : W → List ℕ) (table : WordTable W) → ((w : W) → IsRow text table w) → AreWordsTold text
-told_word text table row v w = so (λ e. some_is v w (sym (row v).0 ∙ ap (look_up table) e ∙ (row w).0))
-    (told_text (text v) (ltb-true _ _ (row v).1) (text w) (ltb-true _ _ (row w).1))
+told_word : {W : Type 0} (text : W → List ℕ) (table : WordTable W) → ((w : W) → look_up table (text w) ≡ Some w)
+    → AreWordsTold text
+told_word text table row v w =
+    so (λ e. some_is v w (sym (row v) ∙ ap (look_up table) e ∙ row w)) (told_text (text v) (text w))
 
 abbrev unary_operators : WordTable UnaryOperator
 unary_operators = with_words unary_operator_text
@@ -41,41 +37,41 @@ assignment_operators = with_words assignment_operator_text
 
 pub told_one_argument : AreWordsTold one_argument_text
 told_one_argument = told_word one_argument_text (with_words one_argument_text one_argument_attributes)
-    (elim [ align ↦ (refl, refl) | _ ↦ (refl, refl) ])
+    (elim [ align ↦ refl | _ ↦ refl ])
 
 pub told_no_argument : AreWordsTold no_argument_text
 told_no_argument = told_word no_argument_text (with_words no_argument_text no_argument_attributes)
-    (elim [ const_attribute ↦ (refl, refl) | _ ↦ (refl, refl) ])
+    (elim [ const_attribute ↦ refl | _ ↦ refl ])
 
 pub told_unary_operator : AreWordsTold unary_operator_text
 told_unary_operator = told_word unary_operator_text unary_operators
-    (elim [ negation ↦ (refl, refl) | _ ↦ (refl, refl) ])
+    (elim [ negation ↦ refl | _ ↦ refl ])
 
 pub told_binary_operator : AreWordsTold binary_operator_text
 told_binary_operator = told_word binary_operator_text binary_operators
-    (elim [ addition ↦ (refl, refl) | _ ↦ (refl, refl) ])
+    (elim [ addition ↦ refl | _ ↦ refl ])
 
 pub told_assignment_operator : AreWordsTold assignment_operator_text
 told_assignment_operator = told_word assignment_operator_text assignment_operators
-    (elim [ equal ↦ (refl, refl) | _ ↦ (refl, refl) ])
+    (elim [ equal ↦ refl | _ ↦ refl ])
 
 pub told_severity : AreWordsTold severity_text
-told_severity = told_word severity_text severities (elim [ error ↦ (refl, refl) | _ ↦ (refl, refl) ])
+told_severity = told_word severity_text severities (elim [ error ↦ refl | _ ↦ refl ])
 
 pub told_address_space : AreWordsTold address_space_text
-told_address_space = told_word address_space_text address_spaces (elim [ function ↦ (refl, refl) | _ ↦ (refl, refl) ])
+told_address_space = told_word address_space_text address_spaces (elim [ function ↦ refl | _ ↦ refl ])
 
 pub told_access_mode : AreWordsTold access_mode_text
-told_access_mode = told_word access_mode_text access_modes (elim [ read ↦ (refl, refl) | _ ↦ (refl, refl) ])
+told_access_mode = told_word access_mode_text access_modes (elim [ read ↦ refl | _ ↦ refl ])
 
 pub told_builtin_value : AreWordsTold builtin_value_text
 told_builtin_value = told_word builtin_value_text builtin_values
-    (elim [ vertex_index ↦ (refl, refl) | _ ↦ (refl, refl) ])
+    (elim [ vertex_index ↦ refl | _ ↦ refl ])
 
 pub told_interpolation_type : AreWordsTold interpolation_type_text
 told_interpolation_type = told_word interpolation_type_text interpolation_types
-    (elim [ perspective ↦ (refl, refl) | _ ↦ (refl, refl) ])
+    (elim [ perspective ↦ refl | _ ↦ refl ])
 
 pub told_interpolation_sampling : AreWordsTold interpolation_sampling_text
 told_interpolation_sampling = told_word interpolation_sampling_text interpolation_samplings
-    (elim [ center ↦ (refl, refl) | _ ↦ (refl, refl) ])
+    (elim [ center ↦ refl | _ ↦ refl ])
