@@ -8,3 +8,4 @@ pub mod Blocks
 pub mod Statements
 pub mod Units
 pub mod Told
+pub mod Derived

@@ -1,0 +1,5 @@
+pub mod Tokens
+pub mod Ways
+pub mod Values
+pub mod ExpressionRules
+pub mod Attributes
