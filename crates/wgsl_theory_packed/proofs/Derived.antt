@@ -3,3 +3,4 @@ pub mod Ways
 pub mod Values
 pub mod ExpressionRules
 pub mod Attributes
+pub mod StatementRules
