@@ -4,3 +4,6 @@ pub mod Values
 pub mod ExpressionRules
 pub mod Attributes
 pub mod StatementRules
+pub mod UnitRules
+pub mod Rules
+pub mod OwnForms

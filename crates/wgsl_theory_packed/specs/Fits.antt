@@ -4,6 +4,9 @@ use Rattle.std.specs.Prelude.{ℕ, ◌≡◌, ◌<◌, ◌^◌, true, List, [], 
 use Rattle.std.specs.Int.{w64}
 use Rattle.std.specs.Option.{IfSome}
 use Rattle.grammar.specs.Tokens.{Span}
+use Rattle.wgsl_model.specs.Tokens.Places.{width}
+use Rattle.wgsl_model.specs.Grammar.Symbols.{Symbol, Value}
+use Rattle.wgsl_model.specs.SourceTrees.{IsTreeOf}
 use Rattle.wgsl_model.specs.Printed.Statements.{is_void}
 use Rattle.wgsl_model.specs.Printed.Units as units
 use Rattle.wgsl_model.specs.Trees.Spanned.{Spanned}
@@ -205,8 +208,24 @@ GlobalItemFits d = SpanFits d.span × GlobalDeclarationFits d.node
 abbrev pub UnitFits : tree.TranslationUnit → Type 0
 UnitFits u = Every DirectiveFits u.global_directives × Every GlobalItemFits u.global_declarations
 
--- ---- what is said of trees that fit
--- each is the only one with its packed form, if that has fewer than 2^64 bytes
+-- ---- what is said of trees
+-- each that fits is the only one with its packed form, if that has fewer than 2^64 bytes
 abbrev pub HaveOwnForms : {Tree : Type 0} → (Tree → Type 0) → (Tree → List ℕ) → Type 0
 HaveOwnForms {Tree} Fit packed = (a b : Tree) → Fit a → Fit b → length (packed a) < 2 ^ 64
     → packed a ≡ packed b → a ≡ b
+
+-- each that a text of fewer than 2^64 bytes derives fits
+abbrev pub FitInTexts : (n : Symbol) → (Value n → Type 0) → Type 0
+FitInTexts n Fit = (source : List ℕ) (v : Value n) → width source < 2 ^ 64 → IsTreeOf n source v → Fit v
+
+-- the statement of a node
+abbrev pub statement_in : StatementNode → Statement
+statement_in (statement_node s span) = s
+
+-- those that texts of fewer than 2^64 bytes derive are the only such ones with their packed forms,
+-- if
+-- these have fewer than 2^64 bytes; of a tree with its span it is what has the span
+abbrev pub HaveOwnFormsInTexts : {Tree : Type 0} (n : Symbol) → (Value n → Tree) → (Tree → List ℕ) → Type 0
+HaveOwnFormsInTexts n tree_in packed = (one other : List ℕ) (a b : Value n)
+    → width one < 2 ^ 64 → width other < 2 ^ 64 → IsTreeOf n one a → IsTreeOf n other b
+    → length (packed (tree_in a)) < 2 ^ 64 → packed (tree_in a) ≡ packed (tree_in b) → tree_in a ≡ tree_in b

@@ -7,7 +7,7 @@ use Rattle.wgsl_model.specs.Trees.Operators.{bitwise_or}
 use Rattle.wgsl_model.specs.Trees.NamedValues.{DiagnosticSeverity, BuiltinValue, InterpolationType, InterpolationSampling, builtin_values, severities, interpolation_types, interpolation_samplings}
 use Rattle.wgsl_model.specs.Trees.Spanned.{Spanned}
 use Rattle.wgsl_model.specs.Trees.Expressions.{ExpressionNode, expression_node, Expression, binary, type_or_identifier, TypeExpression}
-use Rattle.wgsl_model.specs.Trees.Attributes.{OneArgument, align, NoArgument, const_attribute, Attribute, with_argument, without_argument, builtin, interpolate, custom}
+use Rattle.wgsl_model.specs.Trees.Attributes.{OneArgument, NoArgument, Attribute, with_argument, without_argument, builtin, interpolate}
 use Rattle.wgsl_model.specs.Grammar.Checks.{Checked, right, wrong, right_in, right_or, given_or, Arguments, AttributeParts, attribute_names, named_attribute, attribute_of, attribute_node, with_one, with_none, builtin_attribute, diagnostic_attribute, interpolate_attribute, workgroup_size_attribute, type_attribute, severity_and_rule, type_and_sampling, name_and_variants, untemplated_word, untemplated_name, rule_name, variants, variants_in}
 use Rattle.wgsl_theory_reread.proofs.Names.AttributeNames.{of_each_name}
 use Rattle.wgsl_theory_packed.specs.Fits.{Every, SpanFits, ExpressionFits, NodeFits, TypeFits, AttributeFits}
@@ -109,5 +109,8 @@ given_fits (wrong text) other h k = k
 
 pub attribute_fits : (a : Spanned AttributeParts) → ArgumentsFit a.node.arguments → SpanFits a.span
     → SpanFits (attribute_node a).span × AttributeFits (attribute_node a).node
-attribute_fits a h s = (s, given_fits (attribute_of a.node) _
-    (named_fits a.node.name a.node.arguments h) h)
+attribute_fits a h s = (
+  s,
+  given_fits (attribute_of a.node) _
+      (named_fits a.node.name a.node.arguments h) h,
+)

@@ -1,5 +1,5 @@
 -- What the rules of expressions derive fits.
-use Rattle.std.proofs.Common.{ℕ, ℤ, pos, negsuc, nat_abs, ◌^◌, ◌<◌, Bool, true, false, cond, ◌==◌, arith}
+use Rattle.std.proofs.Common.{ℕ, ℤ, pos, negsuc, ◌^◌, ◌<◌, Bool, true, false, cond, ◌==◌, arith}
 use Rattle.std.proofs.lemmas.Bool.Decides.{nat_tests}
 use Rattle.std.specs.Int.{w64}
 use Rattle.std.specs.Int.RustNames.{FitsSigned}

@@ -40,7 +40,7 @@ attributes_give = weaker_sound (many_fit (gives_sound (symbol_sound symbols.attr
 abbrev Part : UnattributedStatement → Type 0
 Part s = UnattributedFits s × ((attributes : Attributes) → is_void (tree.statement attributes s) ≡ false)
 
-not_empty : {A : Type 0} {b : Bool} → b ≡ false → b ≡ true → A
+pub not_empty : {A : Type 0} {b : Bool} → b ≡ false → b ≡ true → A
 not_empty e f = absurd (true≢false (sym f ∙ e))
 
 statements_give : Gives statements (Every ItemFits)

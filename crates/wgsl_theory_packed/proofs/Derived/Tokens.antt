@@ -1,5 +1,5 @@
 -- The places and the numbers of the tokens of a text fit in 64 bits.
-use Rattle.std.proofs.Common.{◌≡◌, ℕ, zero, suc, pos, nat_abs, ◌^◌, ◌<◌, ◌≤◌, Bool, true, false, cond, List, [], ◌∷◌, length, Option, Some, None, refl, subst, arith, ltb-true}
+use Rattle.std.proofs.Common.{◌≡◌, ℕ, zero, suc, pos, ◌^◌, ◌<◌, ◌≤◌, Bool, true, false, cond, List, [], ◌∷◌, length, Option, Some, None, refl, subst, arith, ltb-true}
 use Rattle.std.specs.Prelude.{codes, bytes_eq, nat_lt, option_map}
 use Rattle.std.specs.Int.{w64}
 use Rattle.std.specs.Int.RustNames.{FitsSigned}

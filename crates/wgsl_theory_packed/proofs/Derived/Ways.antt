@@ -1,5 +1,5 @@
 -- The numbers in what a right side derives from tokens that fit, by the ways to write it.
-use Rattle.std.proofs.Common.{ℕ, zero, suc, ◌-◌, ◌^◌, ◌<◌, subst, List, [], ◌∷◌, ◌++◌, length, Option, Some, None, arith}
+use Rattle.std.proofs.Common.{ℕ, zero, suc, ◌-◌, ◌^◌, ◌<◌, subst, List, [], ◌∷◌, ◌++◌, length, Some, None, arith}
 use Rattle.std.specs.Option.{IfSome}
 use Rattle.grammar.specs.Tokens.{Token, Span, last_end, span_of, first_tokens, span_between}
 use Rattle.grammar.specs.Grammar.{Grammar.left_chain, Mode.checking, Chain, Chain.base, Chain.more, Means}
