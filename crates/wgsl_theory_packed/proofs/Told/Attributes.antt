@@ -1,14 +1,14 @@
 -- Attributes are told apart.
-use Rattle.std.proofs.Common.{ℕ, refl, List, Option}
+use Rattle.std.proofs.Common.{◌≡◌, ℕ, refl, List, ◌∷◌, ◌++◌, Option}
 use Rattle.grammar.specs.Tokens.{Span}
 use Rattle.wgsl_model.specs.Trees.NamedValues.{DiagnosticSeverity, InterpolationType, InterpolationSampling}
 use Rattle.wgsl_model.specs.Trees.Spanned.{Spanned, spanned}
 use Rattle.wgsl_model.specs.Trees.Expressions.{ExpressionNode, TypeExpression}
-use Rattle.wgsl_model.specs.Trees.Attributes.{Attribute, with_argument, without_argument, builtin, diagnostic, interpolate, workgroup_size, type_constraint, custom}
+use Rattle.wgsl_model.specs.Trees.Attributes.{Attribute, with_argument, without_argument, builtin, diagnostic, interpolate, workgroup_size, type_constraint, custom, Attributes}
 use Rattle.wgsl_model_packed.specs.Rules.{types_rule, part_rule, attributes_rule, attributes_line_rule, attributes_space_rule, further_word_rule, further_node_rule, arguments_rule, nodes_rule, node_rule, nothing_rule}
 use Rattle.wgsl_model_packed.specs.Attributes.{packed_type_constraint, packed_attribute, packed_attribute_node, packed_attribute_line, packed_attributes_before}
 use Rattle.wgsl_theory_packed.specs.Fits.{SpanFits, ConstraintFits, AttributeFits, AttributesFit}
-use Rattle.wgsl_theory_packed.proofs.Told.Forms.{AreTold, ◌▸◌, after_rule, apart, of_one, of_two, of_three, told_text, told_span, told_optional, told_further_word, told_list}
+use Rattle.wgsl_theory_packed.proofs.Told.Forms.{Tells, AreTold, ◌▸◌, after_rule, apart, of_one, of_two, of_three, told_text, told_span, told_optional, told_further_word, told_list}
 use Rattle.wgsl_theory_packed.proofs.Told.Words.{told_one_argument, told_no_argument, told_builtin_value, told_severity, told_interpolation_type, told_interpolation_sampling}
 use Rattle.wgsl_theory_packed.proofs.Told.Expressions.{told_node, told_type}
 
@@ -59,3 +59,9 @@ told_attribute_line =
 pub told_attributes_before : AreTold AttributesFit packed_attributes_before
 told_attributes_before =
     told_list nothing_rule attributes_rule attributes_space_rule refl refl refl told_attribute_node
+
+-- a node after its rule and its attributes
+pub led : {X Y : Type 0} {m n : ℕ} {f g : List ℕ} {x y : X} (made : Attributes → X → Y)
+    → (a : Attributes) → AttributesFit a → (b : Attributes) → AttributesFit b → Tells f g (x ≡ y)
+    → Tells (m ∷ (packed_attribute_line a ++ f)) (n ∷ (packed_attribute_line b ++ g)) (made a x ≡ made b y)
+led made a h b k one = of_two made (after_rule (told_attribute_line a h b k ▸ one))

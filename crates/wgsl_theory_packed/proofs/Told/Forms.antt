@@ -26,6 +26,7 @@ IsTold {X} Fit packed x = (y : X) → Fit y → Tells (packed x) (packed y) (x �
 abbrev pub AreTold : {X : Type 0} → (X → Type 0) → (X → List ℕ) → Type 0
 AreTold {X} Fit packed = (x : X) → Fit x → IsTold Fit packed x
 
+-- so a tree that fits is the only one with its form
 pub own_forms : {X : Type 0} (Fit : X → Type 0) (packed : X → List ℕ) → AreTold Fit packed → HaveOwnForms Fit packed
 own_forms Fit packed told a b h k small e = ((told a h b k).told [] [] (rw append-nil small)
     (append-nil (packed a) ∙ e ∙ sym (append-nil (packed b)))).0
@@ -67,6 +68,7 @@ after_rule one = record { told = λ r s small e. one.told r s (omega (arith, sma
 pub told_rule : (m n : ℕ) → Tells (m ∷ []) (n ∷ []) (m ≡ n)
 told_rule m n = record { told = λ r s small e. (ap (λ l. get_or l 0 0) e, ap (drop 1) e) }
 
+-- other rules before forms
 pub apart : {m n : ℕ} {f g : List ℕ} {E : Type 0} → (m == n) ≡ false → Tells (m ∷ f) (n ∷ g) E
 apart {m} {n} h = record { told = λ r s small e. absurd (eqb-false m n h (ap (λ l. get_or l 0 0) e)) }
 
@@ -76,7 +78,7 @@ turned one = record {
   told = λ r s small e. (let d = one.told s r (rw e at small) (sym e) in (sym d.0, sym d.1));
 }
 
--- nodes that are made of one part and more
+-- nodes that are made of one part, and of more
 pub of_one : {A X : Type 0} {f g : List ℕ} {a b : A} (node : A → X) → Tells f g (a ≡ b) → Tells f g (node a ≡ node b)
 of_one node = so (λ d i. node (d i))
 
@@ -102,6 +104,7 @@ told_number m h n k = record {
   );
 }
 
+-- texts of one length
 told_bytes : (a b r s : List ℕ) → length a ≡ length b → a ++ r ≡ b ++ s → (a ≡ b) × (r ≡ s)
 told_bytes a b r s l e = (
   sym (take-append_seam a r) ∙ (λ i. take (l i) (e i)) ∙ take-append_seam b s,
@@ -128,6 +131,7 @@ told_optional rule differs item None h (Some y) k = turned (apart differs)
 told_optional rule differs item (Some x) h None k = apart differs
 told_optional rule differs item (Some x) h (Some y) k = of_one (λ x. Some x) (after_rule (item x h y k))
 
+-- nothing is asked of what may be left out
 any : {X : Type 0} (o : Option X) → IfSome o (λ x. Unit {0})
 any None = tt
 any (Some x) = tt
@@ -139,6 +143,7 @@ pub told_further_word : {X : Type 0} {packed : X → List ℕ} (rule : ℕ) → 
 told_further_word {packed = packed} rule differs item a b =
     told_optional {Fit = λ x. Unit {0}} rule differs (λ x h y k. item x y) a (any a) b (any b)
 
+-- items, one before others
 told_items : {X : Type 0} {Fit : X → Type 0} {packed : X → List ℕ} (before last : ℕ) → (before == last) ≡ false
     → AreTold Fit packed → (x : X) (xs : List X) → Fit x → Every Fit xs → (y : X) (ys : List X) → Fit y → Every Fit ys
     → Tells (packed_items before last packed (x ∷ xs)) (packed_items before last packed (y ∷ ys)) (x ∷ xs ≡ y ∷ ys)
@@ -169,7 +174,7 @@ abbrev pub item_form : ℕ → Bool → Span → List ℕ → List ℕ → List 
 item_form rule empty span more rest = if empty then void_item_rule ∷ (packed_span span ++ more)
     else rule ∷ (packed_span span ++ rest)
 
--- there is one empty item
+-- items are told apart, if there is only one that is empty
 pub told_item : {X Y : Type 0} {f g p q : List ℕ} {xs ys : Y} (rule : ℕ) → (void_item_rule == rule) ≡ false
     → (empty : X) (before : X → Span → Y → Y) (b c : Bool) (x y : X) → (b ≡ true → x ≡ empty) → (c ≡ true → y ≡ empty)
     → (s t : Span) → SpanFits s → SpanFits t → Tells f g (xs ≡ ys) → Tells p q ((x ≡ y) × (xs ≡ ys))

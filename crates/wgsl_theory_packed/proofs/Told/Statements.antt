@@ -12,7 +12,7 @@ use Rattle.wgsl_theory_packed.specs.Fits.{AttributesFit, DeclarationFits, BreakI
 use Rattle.wgsl_theory_packed.proofs.Told.Forms.{Tells, IsTold, AreTold, tells_of, so, ◌▸◌, same, turned, after_rule, item_form, told_item, told_rule, apart, of_one, of_two, of_three, of_four, told_text, told_span, told_optional, told_further_word, told_list}
 use Rattle.wgsl_theory_packed.proofs.Told.Words.{told_address_space, told_access_mode, told_assignment_operator}
 use Rattle.wgsl_theory_packed.proofs.Told.Expressions.{told_node, told_call, told_type}
-use Rattle.wgsl_theory_packed.proofs.Told.Attributes.{told_attribute_line}
+use Rattle.wgsl_theory_packed.proofs.Told.Attributes.{told_attribute_line, led}
 
 -- ---- parts of statements
 told_var_template : (a b : AddressSpace × Option AccessMode)
@@ -52,6 +52,7 @@ abbrev opened : List ℕ → List ℕ
 opened [] = []
 opened (n ∷ form) = if n == ended_rule then form else n ∷ form
 
+-- it has no more bytes
 opened_small : (form : List ℕ) → length form < 2 ^ 64 → length (opened form) < 2 ^ 64
 opened_small [] h = h
 opened_small (n ∷ form) h = go (n == ended_rule) where
@@ -73,6 +74,7 @@ ended_told a x b y one = record {
 }
 
 -- ---- blocks
+-- a statement before others and what ends them
 item_before : (empty : Bool) (span : Span) (form more end : List ℕ)
     → item_form item_rule empty span (more ++ end) (form ++ (more ++ end))
     ≡ item_form item_rule empty span more (form ++ more) ++ end
@@ -83,6 +85,7 @@ item_before false span form more end = simp append_assoc
 abbrev IsEnd : ℕ → Type 0
 IsEnd n = item_rule < n
 
+-- no item begins so
 no_item : {h : List ℕ} {E : Type 0} (n : ℕ) → IsEnd n → (b : Bool) (x : Span) (f g : List ℕ)
     → Tells (n ∷ h) (item_form item_rule b x f g) E
 no_item n h true x f g = apart (ne_eqb n void_item_rule (λ e. omega (arith, h, e)))
@@ -93,6 +96,7 @@ abbrev IsBlockTold : StatementNodes → Type 0
 IsBlockTold ss = (m : ℕ) → IsEnd m → (ts : StatementNodes) → ItemsFit ts → (n : ℕ) → IsEnd n
     → Tells (packed_in ss ++ (m ∷ [])) (packed_in ts ++ (n ∷ [])) (ss ≡ ts)
 
+-- no statements and some, and their ends
 some_items : (m : ℕ) → IsEnd m → (t : Statement) (y : Span) (ts : StatementNodes) (n : ℕ)
     → Tells (m ∷ []) (packed_in (statement_before (statement_node t y) ts) ++ (n ∷ []))
     (no_statements ≡ statement_before (statement_node t y) ts)
@@ -103,6 +107,7 @@ no_items : IsBlockTold no_statements
 no_items m e no_statements k n f = so (λ d. refl) (told_rule m n)
 no_items m e (statement_before (statement_node t y) ts) k n f = some_items m e t y ts n
 
+-- a statement before others
 two_items : (s : Statement) (x : Span) (ss : StatementNodes) → ItemFits (statement_node s x)
     → IsTold StatementFits packed_statement s → IsBlockTold ss → IsBlockTold (statement_before (statement_node s x) ss)
 two_items s x ss h one more m e no_statements k n f = turned (some_items n f s x ss m)
@@ -133,55 +138,53 @@ block_told some none h k ss one ts fits =
     tells_of (ap (λ end. packed_in ss ++ end) (sym m.1)) (ap (λ end. packed_in ts ++ end) (sym n.1))
     (one m.0 m.2 ts fits n.0 n.2)
 
+-- no clause begins as the end of clauses
 small_end : (cs : SwitchClauses) → end_of_clauses cs < lines_rule
 small_end no_clauses = omega arith
 small_end (clause_before c cs) = omega arith
 
 -- ---- statements
 mutual
+  -- what is after the rule of the `;`, with the attributes
   pub told_after : (x : UnattributedStatement) → UnattributedFits x → (a : Attributes) → AttributesFit a
       → (y : UnattributedStatement) → UnattributedFits y → (b : Attributes) → AttributesFit b
       → Tells (packed_after a x) (packed_after b y) (statement a x ≡ statement b y)
   told_after void h a f void k b g = of_one (λ a. statement a void) (after_rule (told_attribute_line a f b g))
-  told_after (compound ss) h a f (compound ts) k b g = of_two (λ a ss. statement a (compound ss)) (after_rule
-      (told_attribute_line a f b g ▸ block_told block_end_rule empty_end_rule (omega arith) (omega arith) ss
-      (told_in ss h) ts k))
+  told_after (compound ss) h a f (compound ts) k b g = led (λ a ss. statement a (compound ss)) a f b g
+      (block_told block_end_rule empty_end_rule (omega arith) (omega arith) ss (told_in ss h) ts k)
   told_after (assignment x) h a f (assignment y) k b g =
       so (λ d i. statement (d.0 i) (assignment_of (d.1.0 i) (d.1.1.0 i) (d.1.1.1 i))) (after_rule
       (told_attribute_line a f b g ▸ told_node x.lhs h.0 y.lhs k.0
       ▸ told_assignment_operator x.operator y.operator ▸ told_node x.rhs h.1 y.rhs k.1))
-  told_after (increment x) h a f (increment y) k b g = of_two (λ a e. statement a (increment_of e)) (after_rule
-      (told_attribute_line a f b g ▸ told_node x.expression h y.expression k))
-  told_after (decrement x) h a f (decrement y) k b g = of_two (λ a e. statement a (decrement_of e)) (after_rule
-      (told_attribute_line a f b g ▸ told_node x.expression h y.expression k))
-  told_after (if_statement x) h a f (if_statement y) k b g = of_two (λ a s. statement a (if_statement s))
-      (after_rule (told_attribute_line a f b g ▸ told_if x h y k))
+  told_after (increment x) h a f (increment y) k b g =
+      led (λ a e. statement a (increment_of e)) a f b g (told_node x.expression h y.expression k)
+  told_after (decrement x) h a f (decrement y) k b g =
+      led (λ a e. statement a (decrement_of e)) a f b g (told_node x.expression h y.expression k)
+  told_after (if_statement x) h a f (if_statement y) k b g =
+      led (λ a s. statement a (if_statement s)) a f b g (told_if x h y k)
   told_after (switch_statement x) h a f (switch_statement y) k b g =
-      of_two (λ a s. statement a (switch_statement s))
-      (after_rule (told_attribute_line a f b g ▸ told_switch x h y k))
-  told_after (loop_statement x) h a f (loop_statement y) k b g = of_two (λ a s. statement a (loop_statement s))
-      (after_rule (told_attribute_line a f b g ▸ told_loop x h y k))
-  told_after (for_statement x) h a f (for_statement y) k b g = of_two (λ a s. statement a (for_statement s))
-      (after_rule (told_attribute_line a f b g ▸ told_for x h y k))
-  told_after (while_statement x) h a f (while_statement y) k b g = of_two (λ a s. statement a (while_statement s))
-      (after_rule (told_attribute_line a f b g ▸ told_while x h y k))
+      led (λ a s. statement a (switch_statement s)) a f b g (told_switch x h y k)
+  told_after (loop_statement x) h a f (loop_statement y) k b g =
+      led (λ a s. statement a (loop_statement s)) a f b g (told_loop x h y k)
+  told_after (for_statement x) h a f (for_statement y) k b g =
+      led (λ a s. statement a (for_statement s)) a f b g (told_for x h y k)
+  told_after (while_statement x) h a f (while_statement y) k b g =
+      led (λ a s. statement a (while_statement s)) a f b g (told_while x h y k)
   told_after break_statement h a f break_statement k b g =
       of_one (λ a. statement a break_statement) (after_rule (told_attribute_line a f b g))
   told_after continue_statement h a f continue_statement k b g =
       of_one (λ a. statement a continue_statement) (after_rule (told_attribute_line a f b g))
   told_after discard_statement h a f discard_statement k b g =
       of_one (λ a. statement a discard_statement) (after_rule (told_attribute_line a f b g))
-  told_after (return_statement x) h a f (return_statement y) k b g = of_two (λ a e. statement a (return_of e))
-      (after_rule (told_attribute_line a f b g
-      ▸ told_optional returned_rule refl told_node x.expression h y.expression k))
+  told_after (return_statement x) h a f (return_statement y) k b g =
+      led (λ a e. statement a (return_of e)) a f b g
+      (told_optional returned_rule refl told_node x.expression h y.expression k)
   told_after (function_call_statement x) h a f (function_call_statement y) k b g =
-      of_two (λ a c. statement a (call_statement_of c))
-      (after_rule (told_attribute_line a f b g ▸ told_call x.call h y.call k))
+      led (λ a c. statement a (call_statement_of c)) a f b g (told_call x.call h y.call k)
   told_after (const_assert x) h a f (const_assert y) k b g =
-      of_two (λ a e. statement a (const_assert (assert_of e)))
-      (after_rule (told_attribute_line a f b g ▸ told_node x.expression h y.expression k))
-  told_after (declaration x) h a f (declaration y) k b g = of_two (λ a d. statement a (declaration d))
-      (after_rule (told_attribute_line a f b g ▸ told_declaration x h y k))
+      led (λ a e. statement a (const_assert (assert_of e))) a f b g (told_node x.expression h y.expression k)
+  told_after (declaration x) h a f (declaration y) k b g =
+      led (λ a d. statement a (declaration d)) a f b g (told_declaration x h y k)
   told_after x h a f y k b g = apart refl
 
   pub told_statement : AreTold StatementFits packed_statement
@@ -193,14 +196,12 @@ mutual
       two_items s x ss h.0 (told_statement s h.0.1) (told_in ss h.1)
 
   pub told_compound : AreTold CompoundFits packed_compound
-  told_compound (compound_statement a ss) h (compound_statement b ts) k = of_two compound_statement (after_rule
-      (told_attribute_line a h.0 b k.0 ▸ block_told block_end_rule empty_end_rule (omega arith) (omega arith) ss
-      (told_in ss h.1) ts k.1))
+  told_compound (compound_statement a ss) h (compound_statement b ts) k = led compound_statement a h.0 b k.0
+      (block_told block_end_rule empty_end_rule (omega arith) (omega arith) ss (told_in ss h.1) ts k.1)
 
   told_opened : AreTold CompoundFits packed_opened
-  told_opened (compound_statement a ss) h (compound_statement b ts) k = of_two compound_statement (after_rule
-      (told_attribute_line a h.0 b k.0 ▸ block_told opened_end_rule empty_opened_end_rule (omega arith) (omega arith)
-      ss (told_in ss h.1) ts k.1))
+  told_opened (compound_statement a ss) h (compound_statement b ts) k = led compound_statement a h.0 b k.0
+      (block_told opened_end_rule empty_opened_end_rule (omega arith) (omega arith) ss (told_in ss h.1) ts k.1)
 
   told_if : AreTold IfFits packed_if
   told_if (if_else c cs l) h (if_else d ds m) k = of_three if_else
@@ -226,8 +227,7 @@ mutual
   told_else c h d k = apart refl
 
   pub told_else_clause : AreTold ElseClauseFits packed_else_clause
-  told_else_clause (else_clause a b) h (else_clause c d) k = of_two else_clause
-      (after_rule (told_attribute_line a h.0 c k.0 ▸ told_compound b h.1 d k.1))
+  told_else_clause (else_clause a b) h (else_clause c d) k = led else_clause a h.0 c k.0 (told_compound b h.1 d k.1)
 
   told_switch : AreTold SwitchFits packed_switch
   told_switch (switch e a cs) h (switch d b ds) k = of_three switch (told_node e h.0 d k.0

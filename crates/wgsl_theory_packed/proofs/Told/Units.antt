@@ -15,10 +15,11 @@ use Rattle.wgsl_theory_packed.specs.Fits.{Every, SpanFits, AttributesFit, Direct
 use Rattle.wgsl_theory_packed.proofs.Told.Forms.{Tells, AreTold, so, ◌▸◌, same, turned, after_rule, item_form, told_item, apart, of_one, of_two, of_three, told_text, told_span, told_list}
 use Rattle.wgsl_theory_packed.proofs.Told.Words.{told_severity}
 use Rattle.wgsl_theory_packed.proofs.Told.Expressions.{told_node, told_type}
-use Rattle.wgsl_theory_packed.proofs.Told.Attributes.{told_attribute_line, told_attributes_before}
+use Rattle.wgsl_theory_packed.proofs.Told.Attributes.{told_attribute_line, told_attributes_before, led}
 use Rattle.wgsl_theory_packed.proofs.Told.Statements.{told_declaration, told_compound}
 
 -- ---- directives
+-- nothing is asked of names
 each : (names : List (List ℕ)) → Every (λ name. Unit {0}) names
 each [] = tt
 each (name ∷ names) = (tt, each names)
@@ -37,11 +38,11 @@ told_directive x h y k = told x.node x.attributes h y.node y.attributes k where
       (after_rule (told_attribute_line a h b k
       ▸ told_severity x.severity y.severity ▸ told_text x.rule_name y.rule_name))
   told (enable x) a h (enable y) b k =
-      of_two (λ attributes names. with_attributes attributes (enable (record { extensions = names })))
-      (after_rule (told_attribute_line a h b k ▸ told_names x.extensions y.extensions))
+      led (λ a names. with_attributes a (enable (record { extensions = names }))) a h b k
+      (told_names x.extensions y.extensions)
   told (requires x) a h (requires y) b k =
-      of_two (λ attributes names. with_attributes attributes (requires (record { extensions = names })))
-      (after_rule (told_attribute_line a h b k ▸ told_names x.extensions y.extensions))
+      led (λ a names. with_attributes a (requires (record { extensions = names }))) a h b k
+      (told_names x.extensions y.extensions)
   told x a h y b k = apart refl
 
 -- ---- members, parameters and functions
@@ -84,6 +85,7 @@ told_function f h g k = so (λ d i. record {
     ▸ told_compound f.body h.2 g.body k.2)
 
 -- ---- declarations
+-- what is after the attributes of a declaration, and these
 told_declaration_after : (x : UnattributedDeclaration) → UnattributedDeclarationFits x → (a : Attributes)
     → AttributesFit a → (y : UnattributedDeclaration) → UnattributedDeclarationFits y → (b : Attributes)
     → AttributesFit b → Tells (packed_declaration_after (packed_attribute_line a) x)
@@ -91,8 +93,7 @@ told_declaration_after : (x : UnattributedDeclaration) → UnattributedDeclarati
 told_declaration_after void h a f void k b g =
     of_one (λ attributes. with_attributes attributes void) (after_rule (after_rule (told_attribute_line a f b g)))
 told_declaration_after (declaration x) h a f (declaration y) k b g =
-    of_two (λ attributes d. with_attributes attributes (declaration d))
-    (after_rule (after_rule (told_attribute_line a f b g ▸ told_declaration x h y k)))
+    after_rule (led (λ a d. with_attributes a (declaration d)) a f b g (told_declaration x h y k))
 told_declaration_after (type_alias x) h a f (type_alias y) k b g =
     of_three (λ attributes ident ty. with_attributes attributes (type_alias (record { ident = ident; ty = ty })))
     (after_rule (told_attribute_line a f b g
@@ -102,11 +103,10 @@ told_declaration_after (structure x) h a f (structure y) k b g =
     (structure (record { ident = ident; members = members }))) (after_rule (told_attribute_line a f b g
     ▸ told_text x.ident y.ident ▸ told_members x.members h y.members k))
 told_declaration_after (function x) h a f (function y) k b g =
-    of_two (λ attributes its. with_attributes attributes (function its))
-    (after_rule (told_attribute_line a f b g ▸ told_function x h y k))
+    led (λ a its. with_attributes a (function its)) a f b g (told_function x h y k)
 told_declaration_after (const_assert x) h a f (const_assert y) k b g =
-    of_two (λ attributes e. with_attributes attributes (const_assert (assert_of e)))
-    (after_rule (after_rule (told_attribute_line a f b g ▸ told_node x.expression h y.expression k)))
+    after_rule (led (λ a e. with_attributes a (const_assert (assert_of e))) a f b g
+    (told_node x.expression h y.expression k))
 told_declaration_after void h a f (declaration y) k b g = after_rule (apart refl)
 told_declaration_after void h a f (const_assert y) k b g = after_rule (apart refl)
 told_declaration_after (declaration x) h a f void k b g = after_rule (apart refl)
@@ -120,6 +120,7 @@ told_global_declaration x h y k =
     told_declaration_after x.node h.1 x.attributes h.0 y.node k.1 y.attributes k.0
 
 -- ---- modules
+-- declarations do not begin as none
 some_declarations : {E : Type 0} (first : ℕ) → (nothing_rule == first) ≡ false → (b : Bool) (s : Span) (f g : List ℕ)
     → Tells (nothing_rule ∷ []) (item_form first b s f g) E
 some_declarations first differs true s f g = apart refl
