@@ -222,9 +222,8 @@ FitInTexts n Fit = (source : List ℕ) (v : Value n) → width source < 2 ^ 64 �
 abbrev pub statement_in : StatementNode → Statement
 statement_in (statement_node s span) = s
 
--- those that texts of fewer than 2^64 bytes derive are the only such ones with their packed forms,
--- if
--- these have fewer than 2^64 bytes; of a tree with its span it is what has the span
+-- of those that texts of fewer than 2^64 bytes derive each is the only one with its packed form, if
+-- that has fewer than 2^64 bytes; of one with its span, what has the span
 abbrev pub HaveOwnFormsInTexts : {Tree : Type 0} (n : Symbol) → (Value n → Tree) → (Tree → List ℕ) → Type 0
 HaveOwnFormsInTexts n tree_in packed = (one other : List ℕ) (a b : Value n)
     → width one < 2 ^ 64 → width other < 2 ^ 64 → IsTreeOf n one a → IsTreeOf n other b
