@@ -7,3 +7,5 @@ pub mod Declarations
 pub mod Blocks
 pub mod Statements
 pub mod Units
+pub mod Told
+pub mod Derived

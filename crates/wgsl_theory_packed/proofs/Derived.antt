@@ -1,0 +1,9 @@
+pub mod Tokens
+pub mod Ways
+pub mod Values
+pub mod ExpressionRules
+pub mod Attributes
+pub mod StatementRules
+pub mod UnitRules
+pub mod Rules
+pub mod OwnForms
