@@ -1,8 +1,14 @@
-//! Laws of the call that prints packed forms.
+//! Laws of packed forms, and of the call that prints them.
 
 ghost use Rattle.std.specs.Prelude.{◌≡◌, ◌⊎◌, ℕ, List, [], chars, codes};
 ghost use Rattle.std.specs.Str.{IsUtf8};
+ghost use Rattle.wgsl_model.specs.Grammar.Symbols as symbols;
+ghost use Rattle.wgsl_model_packed.specs.Expressions.{packed_expression_node};
 ghost use Rattle.wgsl_model_packed.specs.Printing.{Prints};
+ghost use Rattle.wgsl_model_packed.specs.Statements.{packed_statement};
+ghost use Rattle.wgsl_model_packed.specs.Units.{packed_directive, packed_global_declaration};
+ghost use Rattle.wgsl_model_packed.specs.Units.{packed_unit};
+ghost use Rattle.wgsl_theory_packed.specs.Fits.{HaveOwnFormsInTexts, statement_in};
 ghost use Rattle.wgsl_buffers.specs.declared.answer.Answer.{Answer};
 ghost use Rattle.wgsl_buffers.specs.Kinds.{Kind, printing_of};
 ghost use Rattle.wgsl_buffers.specs.Trees.{module_tree, IsPackedOf};
@@ -20,4 +26,15 @@ pub fn printed_packed()
     ensures { (text form before buffer : List ℕ) (answer : Answer) (result : ℕ)
         → IsUtf8 text → IsPackedOf module_tree (chars text) form → (result ≡ 0) ⊎ (result ≡ 4)
         → PrintsPacked form before buffer answer result → Formats text before buffer answer result }
+{}
+
+/// No two trees that texts derive have one packed form, spans included. The span of a declaration
+/// or a statement itself is not in its form.
+pub fn packed_forms_differ()
+    ensures unit { HaveOwnFormsInTexts symbols.unit (λ u. u) packed_unit }
+    ensures directive { HaveOwnFormsInTexts symbols.global_directive (λ d. d) packed_directive }
+    ensures declaration { HaveOwnFormsInTexts symbols.global_declaration (λ d. d.node)
+        packed_global_declaration }
+    ensures statement { HaveOwnFormsInTexts symbols.statement statement_in packed_statement }
+    ensures expression { HaveOwnFormsInTexts symbols.expression (λ e. e) packed_expression_node }
 {}
