@@ -15,8 +15,8 @@ pub struct Choices {
     pub width: Option<usize>,
     /// What a line is indented with.
     pub style: Option<IndentStyle>,
-    /// How many columns one level of indentation has, from 1 to 16.
-    pub size: Option<u8>,
+    /// How many columns one level of indentation has.
+    pub size: Option<IndentSize>,
     /// How many columns a tab has, from 1 to 16.
     pub tab_width: Option<u8>,
     /// What ends a line.
@@ -28,6 +28,15 @@ pub struct Choices {
 pub enum IndentStyle {
     Spaces,
     Tab,
+}
+
+/// The number of columns of one level of indentation.
+#[derive(Clone, Copy, Debug, PartialEq, Eq)]
+pub enum IndentSize {
+    /// As many as a tab has.
+    Tab,
+    /// From 1 to 16.
+    Columns(u8),
 }
 
 /// The line break at the end of each line.

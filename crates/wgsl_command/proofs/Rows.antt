@@ -1,6 +1,7 @@
 -- Worked command lines, computed.
 use Rattle.std.proofs.Common.{◌≡◌, refl, ℕ, Bool, true, false, List, [], ◌∷◌, Option, Some, None, Result, Ok, Err, codes}
 use Rattle.wgsl_choices.specs.declared.Choices.{Choices}
+use Rattle.wgsl_choices.specs.declared.IndentSize.TheVariants as indent
 use Rattle.wgsl_choices.specs.declared.IndentStyle.TheVariants.{Spaces, Tab}
 use Rattle.wgsl_choices.specs.declared.Newlines.TheVariants.{Auto, Lf, CrLf}
 use Rattle.wgsl_choices.specs.Choices.{nothing}
@@ -112,14 +113,14 @@ pub no_width : command_of (codes "--width" ∷ []) ≡ Err (missing_value Width)
 no_width = refl
 
 pub spaces : command_of (codes "--indent" ∷ codes "2" ∷ [])
-    ≡ formats_with (record nothing { style = Some Spaces; size = Some 2 })
+    ≡ formats_with (record nothing { style = Some Spaces; size = Some (indent.Columns 2) })
 spaces = refl
 
-pub a_tab : command_of (codes "--indent=tab" ∷ []) ≡ formats_with (record nothing { style = Some Tab })
+pub a_tab : command_of (codes "--indent=tab" ∷ []) ≡ formats_with (record nothing { style = Some Tab; size = Some indent.Tab })
 a_tab = refl
 
 pub a_tab_after_spaces : command_of (codes "--indent=2" ∷ codes "--indent=tab" ∷ [])
-    ≡ formats_with (record nothing { style = Some Tab })
+    ≡ formats_with (record nothing { style = Some Tab; size = Some indent.Tab })
 a_tab_after_spaces = refl
 
 pub no_spaces : command_of (codes "--indent=0" ∷ []) ≡ Err (invalid_value Indent (codes "0"))
@@ -147,5 +148,5 @@ pub the_first_value_is_read_too : command_of (codes "--width=a" ∷ codes "--wid
 the_first_value_is_read_too = refl
 
 pub choices_together : command_of (codes "--width=80" ∷ codes "--indent=2" ∷ codes "--width=120" ∷ [])
-    ≡ formats_with (record nothing { width = Some 120; style = Some Spaces; size = Some 2 })
+    ≡ formats_with (record nothing { width = Some 120; style = Some Spaces; size = Some (indent.Columns 2) })
 choices_together = refl

@@ -9,6 +9,8 @@ use Rattle.std.proofs.lemmas.Fmt.{decimal_nonempty, digits_decimal, digits_value
 use Rattle.std.proofs.lemmas.List.{append-nil, append_assoc}
 use Rattle.std.proofs.lemmas.Slice.Eq.{bytes_eq-Decides}
 use Rattle.wgsl_choices.specs.declared.Choices.{Choices}
+use Rattle.wgsl_choices.specs.declared.IndentSize.{IndentSize}
+use Rattle.wgsl_choices.specs.declared.IndentSize.TheVariants as indent
 use Rattle.wgsl_choices.specs.declared.IndentStyle.{IndentStyle}
 use Rattle.wgsl_choices.specs.declared.IndentStyle.TheVariants.{Spaces, Tab}
 use Rattle.wgsl_choices.specs.declared.Newlines.{Newlines}
@@ -64,16 +66,16 @@ not_tab n within =
 
 -- the number of spaces that is written is the one that is read
 spaces_back : (choices : Choices) (n : ℕ) → 1 ≤ n → n ≤ 16
-    → with_indent choices (decimal n) ≡ Some (record choices { style = Some Spaces; size = Some n })
+    → with_indent choices (decimal n) ≡ Some (record choices { style = Some Spaces; size = Some (indent.Columns n) })
 spaces_back choices n low high =
     let of_size : Option ℕ → Option Choices =
-    λ size. option_map (λ it. record choices { style = Some Spaces; size = Some it }) size in
-    ap (λ b. if b then Some (record choices { style = Some Tab; size = None })
+    λ size. option_map (λ it. record choices { style = Some Spaces; size = Some (indent.Columns it) }) size in
+    ap (λ b. if b then Some (record choices { style = Some Tab; size = Some indent.Tab })
     else of_size (size_of (decimal n))) (not_tab n (omega (arith, high)))
     ∙ ap of_size (number_back 1 16 n (lit< tt) low high)
 
 -- these choices
-choose : Option ℕ → Option IndentStyle → Option ℕ → Option Newlines → Choices
+choose : Option ℕ → Option IndentStyle → Option IndentSize → Option Newlines → Choices
 choose width style size newlines =
     record { width = width; style = style; size = size; tab_width = None; newlines = newlines }
 
@@ -145,21 +147,22 @@ module _ (check diff quiet : Bool) (name : Option (List ℕ)) (rest : List (List
       ap (λ read. made setting.Width (decimal it) nothing (option_map (λ n. record nothing { width = Some n }) read))
       (number_back 0 9999 it (lit< tt) (omega arith) is)
 
-  indent_read : (width : Option ℕ) (style : Option IndentStyle) (size : Option ℕ) → IsIndent style size
+  indent_read : (width : Option ℕ) (style : Option IndentStyle) (size : Option IndentSize) → IsIndent style size
       → after_all (any_after check diff quiet name (choose width None None None))
-      (setting_words setting.Indent (indent_value style size) ++ rest)
+      (setting_words setting.Indent (option_map indent_value size) ++ rest)
       ≡ after_all (any_after check diff quiet name (choose width style size None)) rest
   unfolding any_after asked_by choose made
-  indent_read width None size is =
-      ap (λ it. after_all (any_after check diff quiet name (choose width None it None)) rest) (sym is)
-  indent_read width (Some Tab) size is =
-      ap (λ it. after_all (any_after check diff quiet name (choose width (Some Tab) it None)) rest) (sym is)
-  indent_read width (Some Spaces) None is = absurd is
-  indent_read width (Some Spaces) (Some it) is =
-      ap (λ chosen. made setting.Indent (decimal it) (choose width None None None) chosen)
-      (spaces_back (choose width None None None) it is.0 is.1)
+  indent_read width style None is =
+      ap (λ it. after_all (any_after check diff quiet name (choose width it None None)) rest) (sym is)
+  indent_read width style (Some indent.Tab) is =
+      ap (λ it. after_all (any_after check diff quiet name (choose width it (Some indent.Tab) None)) rest) (sym is)
+  indent_read width style (Some (indent.Columns count)) is =
+      ap (λ chosen. made setting.Indent (decimal count) (choose width None None None) chosen)
+      (spaces_back (choose width None None None) count is.1 is.2)
+      ∙ ap (λ it. after_all (any_after check diff quiet name (choose width it (Some (indent.Columns count)) None)) rest)
+      (sym is.0)
 
-  newlines_read : (width : Option ℕ) (style : Option IndentStyle) (size : Option ℕ) (newlines : Option Newlines)
+  newlines_read : (width : Option ℕ) (style : Option IndentStyle) (size : Option IndentSize) (newlines : Option Newlines)
       → after_all (any_after check diff quiet name (choose width style size None))
       (setting_words setting.Newlines (option_map newlines_value newlines) ++ rest)
       ≡ after_all (any_after check diff quiet name (choose width style size newlines)) rest
@@ -171,14 +174,14 @@ module _ (check diff quiet : Bool) (name : Option (List ℕ)) (rest : List (List
 
 -- the words of choices add them
 choices_read : (check diff quiet : Bool) (name : Option (List ℕ)) (width : Option ℕ)
-    (style : Option IndentStyle) (size : Option ℕ) (newlines : Option Newlines) (rest : List (List ℕ))
+    (style : Option IndentStyle) (size : Option IndentSize) (newlines : Option Newlines) (rest : List (List ℕ))
     → IfSome width (λ it. it ≤ 9999) → IsIndent style size
     → after_all (any_after check diff quiet name nothing) (choices_words (choose width style size newlines) ++ rest)
     ≡ after_all (any_after check diff quiet name (choose width style size newlines)) rest
 unfolding choose
 choices_read check diff quiet name width style size newlines rest in_range is =
     let words = setting_words setting.Width (option_map decimal width) in
-    let more = setting_words setting.Indent (indent_value style size) in
+    let more = setting_words setting.Indent (option_map indent_value size) in
     let last = setting_words setting.Newlines (option_map newlines_value newlines) in
     ap (after_all (any_after check diff quiet name nothing))
     (append_assoc words (more ++ last) rest ∙ ap (λ it. words ++ it) (append_assoc more last rest))
@@ -207,7 +210,7 @@ request_read Check quiet name choices (source ∷ sources) some = refl
 request_read Diff quiet name choices (source ∷ sources) some = refl
 
 in_parts : (mode : Mode) (quiet : Bool) (name : Option (List ℕ)) (width : Option ℕ)
-    (style : Option IndentStyle) (size : Option ℕ) (newlines : Option Newlines) (sources : List Source)
+    (style : Option IndentStyle) (size : Option IndentSize) (newlines : Option Newlines) (sources : List Source)
     → IfSome width (λ it. it ≤ 9999) → IsIndent style size → sources ≢ [] → AllByRecursion IsSayable sources
     → command_of (arguments_of (request mode quiet name (choose width style size newlines) sources))
     ≡ Ok (format (request mode quiet name (choose width style size newlines) sources))

@@ -3,6 +3,7 @@ use Rattle.std.specs.Prelude.{ℕ, List, Option, Some, None, codes, if◌then◌
 use Rattle.std.specs.Option.{option_map}
 use Rattle.std.specs.Str.{bytes_eq}
 use Rattle.wgsl_choices.specs.declared.Choices.{Choices}
+use Rattle.wgsl_choices.specs.declared.IndentSize.TheVariants as indent
 use Rattle.wgsl_choices.specs.declared.IndentStyle.TheVariants.{Spaces, Tab}
 use Rattle.wgsl_choices.specs.declared.Newlines.{Newlines}
 use Rattle.wgsl_choices.specs.declared.Newlines.TheVariants.{Auto, Lf, CrLf}
@@ -23,8 +24,8 @@ with_width choices value = option_map (λ it. record choices { width = Some it }
 -- choices with the indentation that a value gives: a tab, or a number of spaces
 abbrev pub with_indent : Choices → List ℕ → Option Choices
 with_indent choices value =
-    if bytes_eq value (codes "tab") then Some (record choices { style = Some Tab; size = None })
-    else option_map (λ it. record choices { style = Some Spaces; size = Some it }) (size_of value)
+    if bytes_eq value (codes "tab") then Some (record choices { style = Some Tab; size = Some indent.Tab })
+    else option_map (λ it. record choices { style = Some Spaces; size = Some (indent.Columns it) }) (size_of value)
 
 -- choices with the ends of lines that a value gives
 abbrev pub with_newlines : Choices → List ℕ → Option Choices

@@ -4,6 +4,8 @@ use Rattle.std.specs.Fmt.{decimal}
 use Rattle.std.specs.List.{AllByRecursion}
 use Rattle.std.specs.Option.{IfSome, option_map}
 use Rattle.wgsl_choices.specs.declared.Choices.{Choices}
+use Rattle.wgsl_choices.specs.declared.IndentSize.{IndentSize}
+use Rattle.wgsl_choices.specs.declared.IndentSize.TheVariants as indent
 use Rattle.wgsl_choices.specs.declared.IndentStyle.{IndentStyle}
 use Rattle.wgsl_choices.specs.declared.IndentStyle.TheVariants.{Spaces, Tab}
 use Rattle.wgsl_choices.specs.declared.Newlines.{Newlines}
@@ -34,10 +36,9 @@ setting_words name None = []
 setting_words name (Some value) = setting_text name ∷ value ∷ []
 
 -- the value of an indentation: `tab`, or how many spaces
-abbrev pub indent_value : Option IndentStyle → Option ℕ → Option (List ℕ)
-indent_value (Some Tab) size = Some (codes "tab")
-indent_value (Some Spaces) size = option_map decimal size
-indent_value None size = None
+abbrev pub indent_value : IndentSize → List ℕ
+indent_value indent.Tab = codes "tab"
+indent_value (indent.Columns count) = decimal count
 
 -- the value of the ends of lines
 abbrev pub newlines_value : Newlines → List ℕ
@@ -49,7 +50,7 @@ newlines_value CrLf = codes "crlf"
 abbrev pub choices_words : Choices → List (List ℕ)
 choices_words choices =
     setting_words setting.Width (option_map decimal choices.width)
-    ++ (setting_words setting.Indent (indent_value choices.style choices.size)
+    ++ (setting_words setting.Indent (option_map indent_value choices.size)
     ++ setting_words setting.Newlines (option_map newlines_value choices.newlines))
 
 -- the argument of a source
@@ -69,11 +70,10 @@ abbrev pub IsSayable : Source → Type 0
 IsSayable source = source ≢ path (codes "-")
 
 -- an indentation is left open, is a tab, or is a number of spaces
-abbrev pub IsIndent : Option IndentStyle → Option ℕ → Type 0
-IsIndent None size = size ≡ None
-IsIndent (Some Tab) size = size ≡ None
-IsIndent (Some Spaces) None = ⊥
-IsIndent (Some Spaces) (Some size) = (1 ≤ size) × (size ≤ 16)
+abbrev pub IsIndent : Option IndentStyle → Option IndentSize → Type 0
+IsIndent style None = style ≡ None
+IsIndent style (Some indent.Tab) = style ≡ Some Tab
+IsIndent style (Some (indent.Columns count)) = (style ≡ Some Spaces) × (1 ≤ count) × (count ≤ 16)
 
 -- the choices that have options: each but the width of a tab
 pub record AreChoices (choices : Choices) : Type 0 where

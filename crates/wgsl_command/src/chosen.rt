@@ -3,7 +3,7 @@
 ghost use Rattle.std.specs.Prelude.{◌≡◌};
 ghost use Rattle.wgsl_command.specs.Chosen as plain;
 
-use wgsl_choices::{Choices, IndentStyle, Newlines, read_size, read_width};
+use wgsl_choices::{Choices, IndentSize, IndentStyle, Newlines, read_size, read_width};
 
 /// Returns these choices with the width that a value gives, if it gives one.
 pub fn with_width(choices: Choices, value: &str) -> Option<Choices>
@@ -23,14 +23,14 @@ pub fn with_indent(choices: Choices, value: &str) -> Option<Choices>
     if value == "tab" {
         return Some(Choices {
             style: Some(IndentStyle::Tab),
-            size: None,
+            size: Some(IndentSize::Tab),
             ..choices
         });
     }
-    let size = read_size(value)?;
+    let columns = read_size(value)?;
     Some(Choices {
         style: Some(IndentStyle::Spaces),
-        size: Some(size),
+        size: Some(IndentSize::Columns(columns)),
         ..choices
     })
 }

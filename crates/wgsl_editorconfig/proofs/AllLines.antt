@@ -9,7 +9,7 @@ use Rattle.wgsl_editorconfig.specs.declared.reading.Place.TheVariants as place
 use Rattle.wgsl_editorconfig.specs.declared.reading.Reading.{Reading}
 use Rattle.wgsl_editorconfig.specs.Globs.{matches_wgsl}
 use Rattle.wgsl_editorconfig.specs.Lines.{Property, Line, section, property, other, line_of, is_newline, without_mark}
-use Rattle.wgsl_editorconfig.specs.Properties.{preamble, applying, says_root, says_style, says_size, says_tab_width, says_width, says_newlines, last_said, columns_of, properties_of}
+use Rattle.wgsl_editorconfig.specs.Properties.{preamble, applying, says_root, says_style, says_size, says_tab_width, says_width, says_newlines, last_said, properties_of}
 use Rattle.wgsl_editorconfig.specs.Reading.{nothing, after, read_all, properties}
 
 -- the root that lines say, from a place on
@@ -31,7 +31,7 @@ with_all root so_far all = record {
   choices = record {
     width = last_said says_width so_far.width all;
     style = last_said says_style so_far.style all;
-    size = columns_of (last_said says_size so_far.size all) (last_said says_tab_width so_far.tab_width all);
+    size = last_said says_size so_far.size all;
     tab_width = last_said says_tab_width so_far.tab_width all;
     newlines = last_said says_newlines so_far.newlines all;
   };

@@ -3,6 +3,7 @@ use Rattle.std.proofs.Common.{◌≡◌, refl, true, false, ◌++◌, Some, code
 use Rattle.std.specs.Str.{chars, trim_start, trim_end}
 use Rattle.std.specs.Char.{encode_utf8}
 use Rattle.wgsl_choices.specs.declared.Choices.{Choices}
+use Rattle.wgsl_choices.specs.declared.IndentSize.TheVariants as indent
 use Rattle.wgsl_choices.specs.declared.IndentStyle.TheVariants.{Spaces, Tab}
 use Rattle.wgsl_choices.specs.declared.Newlines.TheVariants.{Lf, CrLf}
 use Rattle.wgsl_choices.specs.Choices.{nothing}
@@ -50,7 +51,7 @@ a_root_that_is_not_understood = refl
 
 pub a_section : properties_of
     (codes "[*]\nindent_style = space\nindent_size = 2\nmax_line_length = 80\nend_of_line = lf\n")
-    ≡ says (record nothing { width = Some 80; style = Some Spaces; size = Some 2; newlines = Some Lf })
+    ≡ says (record nothing { width = Some 80; style = Some Spaces; size = Some (indent.Columns 2); newlines = Some Lf })
 unfolding chars trim_start trim_end encode_utf8
 a_section = refl
 
@@ -75,13 +76,13 @@ another_section = refl
 
 pub a_section_after_another :
     properties_of (codes "[*.rs]\nindent_size = 2\n[*.wgsl]\nindent_size = 3\n[*.md]\nindent_size = 4\n")
-    ≡ says (record nothing { size = Some 3 })
+    ≡ says (record nothing { size = Some (indent.Columns 3) })
 unfolding chars trim_start trim_end encode_utf8
 a_section_after_another = refl
 
 pub later_lines : properties_of
     (codes "[*]\nindent_size = 2\nindent_size = 8\n[*.wgsl]\nmax_line_length = 60\nindent_size = 4\n")
-    ≡ says (record nothing { width = Some 60; size = Some 4 })
+    ≡ says (record nothing { width = Some 60; size = Some (indent.Columns 4) })
 unfolding chars trim_start trim_end encode_utf8
 later_lines = refl
 
@@ -93,7 +94,7 @@ a_value_taken_back = refl
 
 pub values_out_of_range : properties_of (codes
     "[*]\nindent_size = 2\nindent_size = 0\nindent_size = 17\ntab_width = 16\ntab_width = 99\nmax_line_length = 9999\nmax_line_length = 10000\n")
-    ≡ says (record nothing { width = Some 9999; size = Some 2; tab_width = Some 16 })
+    ≡ says (record nothing { width = Some 9999; size = Some (indent.Columns 2); tab_width = Some 16 })
 unfolding chars trim_start trim_end encode_utf8
 values_out_of_range = refl
 
@@ -108,11 +109,12 @@ unfolding chars trim_start trim_end encode_utf8
 no_limit = refl
 
 pub as_many_as_a_tab : properties_of (codes "[*]\nindent_size = tab\ntab_width = 8\n")
-    ≡ says (record nothing { size = Some 8; tab_width = Some 8 })
+    ≡ says (record nothing { size = Some indent.Tab; tab_width = Some 8 })
 unfolding chars trim_start trim_end encode_utf8
 as_many_as_a_tab = refl
 
-pub as_many_as_an_unknown_tab : properties_of (codes "[*]\nindent_size = tab\n") ≡ says nothing
+pub as_many_as_an_unknown_tab : properties_of (codes "[*]\nindent_size = tab\n")
+    ≡ says (record nothing { size = Some indent.Tab })
 unfolding chars trim_start trim_end encode_utf8
 as_many_as_an_unknown_tab = refl
 

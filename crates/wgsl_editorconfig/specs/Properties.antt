@@ -1,14 +1,13 @@
 -- What a file says of WGSL files.
-use Rattle.std.specs.Prelude.{ℕ, Bool, true, false, List, [], ◌∷◌, Option, Some, None}
+use Rattle.std.specs.Prelude.{ℕ, Bool, true, false, List, [], ◌∷◌, Option, None}
 use Rattle.std.specs.Option.{unwrap_or}
 use Rattle.wgsl_choices.specs.declared.Choices.{Choices}
+use Rattle.wgsl_choices.specs.declared.IndentSize.{IndentSize}
 use Rattle.wgsl_choices.specs.declared.IndentStyle.{IndentStyle}
 use Rattle.wgsl_choices.specs.declared.Newlines.{Newlines}
 use Rattle.wgsl_editorconfig.specs.declared.reading.Properties.{Properties}
 use Rattle.wgsl_editorconfig.specs.declared.key.Key.{Key}
 use Rattle.wgsl_editorconfig.specs.declared.key.Key.TheVariants as keys
-use Rattle.wgsl_editorconfig.specs.declared.value.IndentSize.{IndentSize}
-use Rattle.wgsl_editorconfig.specs.declared.value.IndentSize.TheVariants as indent
 use Rattle.wgsl_editorconfig.specs.Values.{said, root_of, style_of, indent_size_of, tab_width_of, line_length_of, newlines_of}
 use Rattle.wgsl_editorconfig.specs.Globs.{matches_wgsl}
 use Rattle.wgsl_editorconfig.specs.Lines.{Property, Line, section, property, other, lines}
@@ -67,18 +66,12 @@ abbrev pub last_said : {T : Type 0} → (Key → List ℕ → Option (Option T))
 last_said says before [] = before
 last_said says before (it ∷ rest) = last_said says (unwrap_or (says it.key it.value) before) rest
 
--- how many columns an indentation has, where a tab has so many
-abbrev pub columns_of : Option IndentSize → Option ℕ → Option ℕ
-columns_of None tab_width = None
-columns_of (Some (indent.Columns columns)) tab_width = Some columns
-columns_of (Some indent.Tab) tab_width = tab_width
-
 -- what properties choose of the layout
 abbrev pub choices_of : List Property → Choices
 choices_of all = record {
   width = last_said says_width None all;
   style = last_said says_style None all;
-  size = columns_of (last_said says_size None all) (last_said says_tab_width None all);
+  size = last_said says_size None all;
   tab_width = last_said says_tab_width None all;
   newlines = last_said says_newlines None all;
 }

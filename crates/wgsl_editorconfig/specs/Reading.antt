@@ -10,7 +10,7 @@ use Rattle.wgsl_editorconfig.specs.declared.reading.Place.TheVariants as place
 use Rattle.wgsl_editorconfig.specs.declared.reading.Reading.{Reading}
 use Rattle.wgsl_editorconfig.specs.Globs.{matches_wgsl}
 use Rattle.wgsl_editorconfig.specs.Lines.{Line, section, property, other, line_of, is_newline, without_mark}
-use Rattle.wgsl_editorconfig.specs.Properties.{says_root, says_style, says_size, says_tab_width, says_width, says_newlines, columns_of}
+use Rattle.wgsl_editorconfig.specs.Properties.{says_root, says_style, says_size, says_tab_width, says_width, says_newlines}
 
 -- before the first line
 abbrev pub nothing : Reading
@@ -69,7 +69,7 @@ properties so_far = record {
   choices = record {
     width = so_far.width;
     style = so_far.style;
-    size = columns_of so_far.size so_far.tab_width;
+    size = so_far.size;
     tab_width = so_far.tab_width;
     newlines = so_far.newlines;
   };

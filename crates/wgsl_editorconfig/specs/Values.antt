@@ -1,13 +1,13 @@
 -- What values say.
 use Rattle.std.specs.Prelude.{ℕ, Bool, true, false, List, Option, Some, None, codes, if◌then◌else◌}
 use Rattle.std.specs.Option.{option_map}
+use Rattle.wgsl_choices.specs.declared.IndentSize.{IndentSize}
+use Rattle.wgsl_choices.specs.declared.IndentSize.TheVariants as indent
 use Rattle.wgsl_choices.specs.declared.IndentStyle.{IndentStyle}
 use Rattle.wgsl_choices.specs.declared.IndentStyle.TheVariants.{Spaces, Tab}
 use Rattle.wgsl_choices.specs.declared.Newlines.{Newlines}
 use Rattle.wgsl_choices.specs.declared.Newlines.TheVariants.{Lf, CrLf}
 use Rattle.wgsl_choices.specs.Numbers.{width_of, size_of}
-use Rattle.wgsl_editorconfig.specs.declared.value.IndentSize.{IndentSize}
-use Rattle.wgsl_editorconfig.specs.declared.value.IndentSize.TheVariants as indent
 use Rattle.wgsl_editorconfig.specs.Keys.{is_word}
 
 -- what a value says that may be understood: nothing, if it is not; `unset`, that there is none

@@ -1,7 +1,6 @@
 //! What the lines so far say.
 
 ghost use Rattle.std.specs.Prelude.{◌≡◌};
-ghost use Rattle.wgsl_editorconfig.specs.Properties.{columns_of};
 ghost use Rattle.wgsl_editorconfig.specs.Reading as plain;
 ghost use Rattle.wgsl_editorconfig.specs.View.{line_view};
 
@@ -9,9 +8,9 @@ use crate::glob::matches_wgsl;
 use crate::key::Key;
 use crate::line::Line;
 use crate::value::{
-    IndentSize, indent_size_of, line_length_of, newlines_of, root_of, said, style_of, tab_width_of,
+    indent_size_of, line_length_of, newlines_of, root_of, said, style_of, tab_width_of,
 };
-use wgsl_choices::{Choices, IndentStyle, Newlines};
+use wgsl_choices::{Choices, IndentSize, IndentStyle, Newlines};
 
 /// The properties of WGSL files that a file gives.
 #[derive(Clone, Copy, Debug, PartialEq, Eq)]
@@ -137,7 +136,7 @@ impl Reading {
             choices: Choices {
                 width: self.width,
                 style: self.style,
-                size: columns_of(self.size, self.tab_width),
+                size: self.size,
                 tab_width: self.tab_width,
                 newlines: self.newlines,
             },
@@ -153,16 +152,5 @@ fn place_of(glob: &str) -> Place
         Place::Applies
     } else {
         Place::Skipped
-    }
-}
-
-/// How many columns an indentation has, where a tab has so many.
-fn columns_of(size: Option<IndentSize>, tab_width: Option<u8>) -> Option<u8>
-    ensures { result ≡ columns_of size tab_width }
-{
-    match size {
-        Some(IndentSize::Columns(columns)) => Some(columns),
-        Some(IndentSize::Tab) => tab_width,
-        None => None,
     }
 }

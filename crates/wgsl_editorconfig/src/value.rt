@@ -4,15 +4,7 @@ ghost use Rattle.std.specs.Prelude.{◌≡◌};
 ghost use Rattle.wgsl_editorconfig.specs.Values as plain;
 
 use crate::key::is_word;
-use wgsl_choices::{IndentStyle, Newlines, read_size, read_width};
-
-/// The width of an indentation in columns.
-#[derive(Clone, Copy, Debug, PartialEq, Eq)]
-pub enum IndentSize {
-    /// As many as a tab.
-    Tab,
-    Columns(u8),
-}
+use wgsl_choices::{IndentSize, IndentStyle, Newlines, read_size, read_width};
 
 /// Returns what a value says, where it is understood as this: `unset` says that there is none.
 pub fn said<T: Copy>(value: &str, understood: Option<T>) -> Option<Option<T>>

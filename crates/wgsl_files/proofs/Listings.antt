@@ -18,11 +18,13 @@ use Rattle.std.specs.Ordering.{nat_cmp}
 use Rattle.std.specs.String.{string_cmp}
 use Rattle.std.specs.declared.alloc.Global.{Global}
 use Rattle.std.specs.declared.vec.Vec.{Vec}
-use Rattle.std.specs.Result.{IfOk}
+use Rattle.std.specs.Result.{IfOk, IfErr}
 use Rattle.wgsl_files.specs.declared.store.StoreError.{StoreError}
-use Rattle.wgsl_files.specs.Files.{unknown}
+use Rattle.wgsl_files.specs.declared.store.StoreError.TheVariants as store
+use Rattle.wgsl_files.specs.Files.{Files, unknown}
 use Rattle.wgsl_files.specs.Folders.{is_below, is_wgsl_below, is_listed_below, folder_of, IsNamedOrBelow, IsFolder, IsListing}
 use Rattle.wgsl_files.specs.Memory.{files_of}
+use Rattle.wgsl_files.specs.Reading.{IsUnknown}
 
 -- what holds of each element holds after a push, and after one that failed
 pub all_pushed : {X : Type 0} (P : X → Type 0) (xs ys : List X) (x : X) (done : Bool)
@@ -152,12 +154,13 @@ module _ (files : BTreeMap (String Global) (Vec ℕ Global)) (named : List ℕ) 
   }
 
 -- what is listed of files of which nothing is known
-pub unknown_file : (named : List ℕ) (paths : List (List ℕ)) → paths ≡ named ∷ [] → IsListing unknown named paths
-unknown_file named paths is = record {
+pub unknown_file : (files : Files) (named : List ℕ) (paths : List (List ℕ)) → files.known ≡ false
+    → paths ≡ named ∷ [] → IsListing files named paths
+unknown_file files named paths none is = record {
   each = alone_each named paths is;
   ordered = alone_ordered named paths is;
-  file = λ known. absurd (false≢true known);
-  folder = λ known. absurd (false≢true known);
+  file = λ known. absurd (false≢true (sym none ∙ known));
+  folder = λ known. absurd (false≢true (sym none ∙ known));
 }
 
 pub unknown_below : (named : List ℕ) (found : Result (Vec (String Global) Global) StoreError)
@@ -173,3 +176,9 @@ unknown_below named (Ok paths) each ordered = record {
   folder = λ known. absurd (false≢true known);
 }
 unknown_below named (Err e) each ordered = tt
+
+-- any error is one of files of which nothing is known
+pub unknown_error : {T : Type 0} (r : Result T StoreError) → IfErr r (IsUnknown unknown)
+unknown_error (Ok x) = tt
+unknown_error (Err store.OutOfMemory) = tt
+unknown_error (Err (store.Failed e)) = refl

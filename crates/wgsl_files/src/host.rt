@@ -10,6 +10,7 @@ use std::fs::{File, Metadata, OpenFile, OpenOptions};
 use std::io;
 use std::io::{ErrorKind, Read, Write};
 use std::os::unix::fs::{MetadataExt, chown};
+use std::path::Path;
 use std::rt::Files;
 
 /// The files of the system that this runtime reaches. Contracts say nothing of what it holds.
@@ -31,14 +32,20 @@ impl<'a, R: Files + AllocGlobal + Clone + Drop> Store for HostStore<'a, R> {
         }
     }
 
-    /// The links of its folders are followed.
+    /// The links of its folders are followed, up to the last folder that exists.
     fn absolute(&self, alloc: Global, path: &str) -> Result<String, AllocError> {
-        let (folder, name) = parts_of(path);
-        match self.rt.canonicalize(alloc, folder) {
-            Ok(folder) => format!(in alloc; "{}/{name}", folder_of(folder.as_str())),
-            Err(error) if error.kind() == ErrorKind::OutOfMemory => Err(AllocError),
-            Err(_) => String::from_str(alloc, path),
+        let path = Path::new(path);
+        for folder in path.ancestors().skip(1) {
+            let Ok(rest) = path.strip_prefix(folder) else {
+                break;
+            };
+            match self.rt.canonicalize(alloc, name_of(folder)) {
+                Ok(found) => return Ok(found.join(alloc, rest)?.into_string()),
+                Err(error) if error.kind() == ErrorKind::OutOfMemory => return Err(AllocError),
+                Err(_) => {}
+            }
         }
+        String::from_str(alloc, path.as_str())
     }
 
     fn read(&self, alloc: Global, path: &str) -> Result<Vec<u8>, StoreError> {
@@ -64,12 +71,11 @@ impl<'a, R: Files + AllocGlobal + Clone + Drop> Store for HostStore<'a, R> {
     }
 }
 
-/// The folder of a path, and the name in it.
-fn parts_of(path: &str) -> (&str, &str) {
-    match path.rsplit_once('/') {
-        Some(("", name)) => ("/", name),
-        Some(parts) => parts,
-        None => (".", path),
+/// The path of a folder of a path, which is empty for the current one.
+fn name_of(folder: Path<'_>) -> &str {
+    match folder.as_str() {
+        "" => ".",
+        path => path,
     }
 }
 

@@ -5,7 +5,7 @@ ghost use Rattle.std.specs.BTreeMap.{keys, IsOrdered};
 ghost use Rattle.std.specs.String.{string_cmp};
 ghost use Rattle.std.specs.List.{filter, list_any};
 ghost use Rattle.wgsl_files.specs.Files.{Same, Replaced};
-ghost use Rattle.wgsl_files.specs.Folders.{IsListing, is_below, is_wgsl_below};
+ghost use Rattle.wgsl_files.specs.Folders.{is_below, is_wgsl_below};
 ghost use Rattle.wgsl_files.specs.Memory.{files_of};
 ghost use Rattle.wgsl_files.specs.Reading.{IsMissing};
 
@@ -24,13 +24,7 @@ pub struct MemoryStore {
 impl Store for MemoryStore {
     ghost files = { λ store. files_of store.files };
 
-    fn list(&self, alloc: Global, path: &str) -> Result<Vec<String>, StoreError>
-        ensures listing { IfOk result (λ paths.
-            IsListing (files_of self.now.files) path.now (map string_bytes paths.items)) }
-
-        // It fails only if an allocation fails.
-        ensures memory { IfErr result (λ e. e ≡ StoreError.OutOfMemory) }
-    {
+    fn list(&self, alloc: Global, path: &str) -> Result<Vec<String>, StoreError> {
         let folder = folder_of(path);
         if has_below(&self.files, folder) {
             Ok(wgsl_below(alloc, &self.files, folder)?)
@@ -63,14 +57,7 @@ impl Store for MemoryStore {
         self.write(alloc, path, bytes)
     }
 
-    fn write(&mut self, alloc: Global, path: &str, bytes: &[u8]) -> Result<(), StoreError>
-        ensures ok { OnOk result (Replaced (files_of self.old.files) (files_of self.new.files)
-            path.now bytes.now) }
-        ensures err { OnErr result (Same (files_of self.old.files) (files_of self.new.files)) }
-
-        // It fails only if an allocation fails.
-        ensures memory { IfErr result (λ e. e ≡ StoreError.OutOfMemory) }
-    {
+    fn write(&mut self, alloc: Global, path: &str, bytes: &[u8]) -> Result<(), StoreError> {
         let kept = Vec::from_slice(alloc, bytes)?;
         self.files.insert(String::from_str(alloc, path)?, kept)?;
         Ok(())

@@ -4,7 +4,7 @@ ghost use Rattle.std.specs.Prelude.{◌≡◌, ◌⊎◌, map, string_bytes, IfO
 ghost use Rattle.wgsl_files.specs.declared.store.StoreError.TheVariants as store;
 ghost use Rattle.wgsl_files.specs.Files.{Files, Holds, IsAbsolute, Same, Replaced};
 ghost use Rattle.wgsl_files.specs.Folders.{IsListing};
-ghost use Rattle.wgsl_files.specs.Reading.{IsMissing};
+ghost use Rattle.wgsl_files.specs.Reading.{IsMissing, IsUnknown};
 
 use std::alloc::{AllocError, AllocFailed, Global};
 use std::io;
@@ -52,13 +52,15 @@ pub trait Store {
     /// the paths of all files in it and in its folders whose names end with `.wgsl`, in the order
     /// of their bytes, but none with a name that begins with `.` below the named one. Of anything
     /// else it is the path itself. For a folder that cannot be read its path is listed with a `/`
-    /// at its end, where no file is: reading it gives the error.
+    /// at its end, where no file is: reading it gives the error. Where contracts know what the
+    /// store holds, it fails only if an allocation fails.
     fn list(&self, alloc: Global, path: &str) -> Result<Vec<String>, StoreError>
         ensures listing { IfOk result (λ paths.
-            IsListing (files self.now) path.now (map string_bytes paths.items)) };
+            IsListing (files self.now) path.now (map string_bytes paths.items)) }
+        ensures failed { IfErr result (IsUnknown (files self.now)) };
 
-    /// Returns a path from the root of the file system to the same file, or the path itself where
-    /// none is found.
+    /// Returns a path from the root of the file system to the same file, which need not exist, or
+    /// the path itself where none is found.
     fn absolute(&self, alloc: Global, path: &str) -> Result<String, AllocError>
         ensures { IfOk result (λ found.
             IsAbsolute (files self.now) path.now (string_bytes found)) };
@@ -75,9 +77,11 @@ pub trait Store {
         ensures missing { IfErr result (λ e. IsMissing (files self.old) path.now e) }
         ensures err { OnErr result (Same (files self.old) (files self.new)) };
 
-    /// Puts these bytes at a path: into a new file, or in place of what the file there has. An
-    /// `Err` changes nothing.
+    /// Puts these bytes at a path: into a new file, or in place of what the file there has. Where
+    /// contracts know what the store holds, it fails only if an allocation fails. An `Err` changes
+    /// nothing.
     fn write(&mut self, alloc: Global, path: &str, bytes: &[u8]) -> Result<(), StoreError>
         ensures ok { OnOk result (Replaced (files self.old) (files self.new) path.now bytes.now) }
+        ensures failed { IfErr result (IsUnknown (files self.old)) }
         ensures err { OnErr result (Same (files self.old) (files self.new)) };
 }

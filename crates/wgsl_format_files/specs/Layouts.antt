@@ -2,6 +2,8 @@
 use Rattle.std.specs.Prelude.{ℕ, Bool, true, false, ◌&&◌, Option, Some, None}
 use Rattle.std.specs.Option.{is_none, option_or, unwrap_or}
 use Rattle.wgsl_choices.specs.declared.Choices.{Choices}
+use Rattle.wgsl_choices.specs.declared.IndentSize.{IndentSize}
+use Rattle.wgsl_choices.specs.declared.IndentSize.TheVariants as indent
 use Rattle.wgsl_choices.specs.declared.IndentStyle.{IndentStyle}
 use Rattle.wgsl_choices.specs.declared.IndentStyle.TheVariants.{Spaces, Tab}
 use Rattle.wgsl_choices.specs.declared.Newlines.{Newlines}
@@ -20,10 +22,16 @@ has_tabs None = false
 has_tabs (Some Spaces) = false
 has_tabs (Some Tab) = true
 
--- how many columns a level has: of tabs those of a tab, else those of a level
+-- how many columns a size is, where a tab has so many
+abbrev pub columns_of : Option IndentSize → Option ℕ → Option ℕ
+columns_of None tab_width = None
+columns_of (Some indent.Tab) tab_width = tab_width
+columns_of (Some (indent.Columns count)) tab_width = Some count
+
+-- how many columns a level has: of tabs those of a tab, or else those of the size
 abbrev pub columns_chosen : Bool → Choices → Option ℕ
-columns_chosen true choices = option_or choices.tab_width choices.size
-columns_chosen false choices = choices.size
+columns_chosen true choices = option_or choices.tab_width (columns_of choices.size choices.tab_width)
+columns_chosen false choices = columns_of choices.size choices.tab_width
 
 -- with what lines end
 abbrev pub newlines_of : Option Newlines → plain.Newlines

@@ -5,10 +5,10 @@ ghost use Rattle.std.specs.Option.{unwrap_or};
 ghost use Rattle.wgsl_model_tidy.specs.Layout.{standard};
 ghost use Rattle.wgsl_format_layout.specs.Layouts.{layout_view, newlines_view};
 ghost use Rattle.wgsl_format_layout.specs.Layouts as view;
-ghost use Rattle.wgsl_format_files.specs.Layouts.{is_nothing, has_tabs, columns_chosen};
-ghost use Rattle.wgsl_format_files.specs.Layouts.{newlines_of, layout_of};
+ghost use Rattle.wgsl_format_files.specs.Layouts.{is_nothing, has_tabs, columns_of};
+ghost use Rattle.wgsl_format_files.specs.Layouts.{columns_chosen, newlines_of, layout_of};
 
-use wgsl_choices::{Choices, IndentStyle};
+use wgsl_choices::{Choices, IndentSize, IndentStyle};
 use wgsl_format::{Indent, Layout, Newlines};
 
 /// How many columns a line has at most where that is left open.
@@ -45,11 +45,21 @@ fn indent_of(choices: Choices) -> Indent
     ensures columns { view.level_columns result
         ≡ unwrap_or (columns_chosen (has_tabs choices.style) choices) standard.indent }
 {
+    let columns = columns_of(choices.size, choices.tab_width);
     match choices.style {
-        Some(IndentStyle::Tab) => {
-            Indent::Tab(choices.tab_width.or(choices.size).unwrap_or(COLUMNS))
-        }
-        Some(IndentStyle::Spaces) | None => Indent::Spaces(choices.size.unwrap_or(COLUMNS)),
+        Some(IndentStyle::Tab) => Indent::Tab(choices.tab_width.or(columns).unwrap_or(COLUMNS)),
+        Some(IndentStyle::Spaces) | None => Indent::Spaces(columns.unwrap_or(COLUMNS)),
+    }
+}
+
+/// How many columns a size is, where a tab has so many.
+fn columns_of(size: Option<IndentSize>, tab_width: Option<u8>) -> Option<u8>
+    ensures { result ≡ columns_of size tab_width }
+{
+    match size {
+        Some(IndentSize::Tab) => tab_width,
+        Some(IndentSize::Columns(count)) => Some(count),
+        None => None,
     }
 }
 

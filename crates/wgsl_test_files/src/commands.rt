@@ -2,7 +2,7 @@
 
 use std::alloc::{AllocError, Global};
 use std::test::Fail;
-use wgsl_choices::{Choices, IndentStyle, Newlines};
+use wgsl_choices::{Choices, IndentSize, IndentStyle, Newlines};
 use wgsl_command::{
     Command, CommandError, Flag, Mode, OptionName, Setting, Source, UsageError, nearest, parse,
 };
@@ -87,7 +87,7 @@ fn reads_choices(rt: HostRuntime) -> Result<(), Fail> {
             "--indent 1",
             Choices {
                 style: spaces,
-                size: Some(1),
+                size: Some(IndentSize::Columns(1)),
                 ..none
             },
         ),
@@ -95,11 +95,18 @@ fn reads_choices(rt: HostRuntime) -> Result<(), Fail> {
             "--indent=tab --indent=16",
             Choices {
                 style: spaces,
-                size: Some(16),
+                size: Some(IndentSize::Columns(16)),
                 ..none
             },
         ),
-        ("--indent=2 --indent tab", Choices { style: tab, ..none }),
+        (
+            "--indent=2 --indent tab",
+            Choices {
+                style: tab,
+                size: Some(IndentSize::Tab),
+                ..none
+            },
+        ),
         (
             "--newlines auto",
             Choices {

@@ -1,7 +1,7 @@
 //! `.editorconfig` files.
 
 use std::test::Fail;
-use wgsl_choices::{Choices, IndentStyle, Newlines, read_size, read_width};
+use wgsl_choices::{Choices, IndentSize, IndentStyle, Newlines, read_size, read_width};
 use wgsl_editorconfig::properties;
 
 #[test]
@@ -15,7 +15,7 @@ fn reads_a_file(rt: HostRuntime) -> Result<(), Fail> {
     let choices = Choices {
         width: Some(0),
         style: Some(IndentStyle::Spaces),
-        size: Some(2),
+        size: Some(IndentSize::Columns(2)),
         tab_width: Some(8),
         newlines: Some(Newlines::CrLf),
     };
@@ -24,12 +24,12 @@ fn reads_a_file(rt: HostRuntime) -> Result<(), Fail> {
 }
 
 #[test]
-fn reads_the_size_of_a_tab(rt: HostRuntime) -> Result<(), Fail> {
+fn reads_a_tab_as_a_size(rt: HostRuntime) -> Result<(), Fail> {
     let found = properties("[**.wgsl]\nindent_style = tab\nindent_size = tab\ntab_width = 3\n");
     assert!(rt; !found.root);
     let choices = Choices {
         style: Some(IndentStyle::Tab),
-        size: Some(3),
+        size: Some(IndentSize::Tab),
         tab_width: Some(3),
         ..Choices::none()
     };
@@ -65,7 +65,7 @@ fn keeps_the_first_choice(rt: HostRuntime) -> Result<(), Fail> {
     let near = properties("[*]\nmax_line_length = 80\n").choices;
     let far = properties("[*]\nmax_line_length = 120\nindent_size = 2\n").choices;
     let both = Choices {
-        size: Some(2),
+        size: Some(IndentSize::Columns(2)),
         ..near
     };
     assert!(rt; near.or(far) == both);

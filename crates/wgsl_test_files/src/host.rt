@@ -100,3 +100,35 @@ fn lists_folders(rt: HostRuntime) -> Result<(), Fail> {
     fs::remove_dir_all(&rt, folder.as_str())?;
     Ok(())
 }
+
+/// A path leads from the root of the file system, through links, also into folders that are not
+/// there.
+#[test]
+fn finds_paths_from_the_root(rt: HostRuntime) -> Result<(), Fail> {
+    let alloc = rt.alloc();
+    let place = std::env::temp_dir(&rt)?;
+    let id = process::id(rt.process());
+    let folder = format!(in alloc; "{}/wgsl_test_files.root.{id}", place.as_str())?;
+    fs::create_dir(&rt, folder.as_str())?;
+    let link = format!(in alloc; "{folder}/link")?;
+    symlink(&rt, ".", link.as_str())?;
+    let (above, here) = (
+        fs::canonicalize(&rt, link.as_str())?,
+        fs::canonicalize(&rt, ".")?,
+    );
+    let store = HostStore { rt: &rt };
+    for name in ["a.wgsl", "none/a.wgsl", "none/b/a.wgsl"] {
+        let linked = format!(in alloc; "{link}/{name}")?;
+        for (named, root) in [(name, &here), (linked.as_str(), &above)] {
+            let wanted = format!(in alloc; "{}/{name}", root.as_str())?;
+            let absolute = store.absolute(alloc, named)?;
+            assert!(rt;
+                absolute.as_str() == wanted.as_str(),
+                "{absolute} of {named}"
+            );
+        }
+    }
+    assert!(rt; store.absolute(alloc, "/none/a.wgsl")?.as_str() == "/none/a.wgsl");
+    fs::remove_dir_all(&rt, folder.as_str())?;
+    Ok(())
+}
