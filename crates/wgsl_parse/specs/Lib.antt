@@ -123,6 +123,7 @@ pub use Rattle.wgsl_model_tidy.specs.LaidOut
 pub use Rattle.wgsl_model_tidy.specs.Formatted
 pub use Rattle.wgsl_model_tidy.specs.NonBlank
 pub use Rattle.wgsl_model_tidy.specs.Lines
+pub use Rattle.wgsl_laws.specs.Indents
 pub use Rattle.wgsl_model_tidy.specs.Kept as KeptPieces
 pub use Rattle.wgsl_model_tidy.specs.Syntax
 pub use Rattle.wgsl_model_tidy.specs.Tidied
