@@ -2,7 +2,10 @@
 
 ghost use Rattle.std.specs.Prelude.{◌≡◌, ℕ, true, false, List};
 ghost use Rattle.grammar.specs.Tokens.{Token};
+ghost use Rattle.grammar.specs.Grammar.{IsSentence};
 ghost use Rattle.grammar.specs.Endings.{Ending.finished};
+ghost use Rattle.wgsl_model.specs.Grammar.Symbols.{Symbol.unit};
+ghost use Rattle.wgsl_model.specs.Grammar.Written.{written};
 ghost use Rattle.wgsl_model.specs.Tokens.TokenList.{IsTokenList};
 ghost use Rattle.wgsl_model_tidy.specs.Pieces.{pieces};
 ghost use Rattle.wgsl_model_tidy.specs.Layout.{Layout};
@@ -68,14 +71,14 @@ pub fn formatted_lines()
         EndsWithOneLineEnd (laid_out layout (pieces source ts)) }
 {}
 
-/// In a text formatted by any layout, a line that begins with `)`, `]`, `}` or the `>` of a template
-/// list is as deep as what it closes: a bracket or a template list as the line where it opens, a
-/// block as the lines around it. A line that begins with any other token is one level deeper than
-/// what it is in, or in a block and outside of all maybe two, where it goes on with a statement or a
-/// declaration. Nothing is said in a bracket or a template list whose line begins inside a block
-/// comment. Names, attributes and grammar are not checked: a text without an invalid token is enough.
+/// In a module formatted by any layout, a line that begins with `)`, `]`, `}` or the `>` of a
+/// template list is as deep as what it closes: a bracket or a template list as the line where it
+/// opens, a block as the lines around it. A line that begins with any other token is one level deeper
+/// than what it is in, or in a block and outside of all maybe two, where no `;`, `{` or `}` is before
+/// it. Nothing is said in a bracket or a template list whose line begins inside a block comment.
+/// Names and attributes are not checked: a module by its syntax is enough.
 pub fn formatted_indents()
     ensures { (layout : Layout) (source : List ℕ) (ts : List Token)
-        (read : IsTokenList source ts finished) →
+        (read : IsTokenList source ts finished) (derived : IsSentence written unit ts) →
         IndentsLines layout (laid_out layout (pieces source ts)) }
 {}

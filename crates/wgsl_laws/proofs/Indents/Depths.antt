@@ -1,5 +1,5 @@
 -- How deep a line is that begins with a token, by what is open there.
-use Rattle.std.proofs.Common.{◌≡◌, ℕ, zero, suc, ◌==◌, ◌&&◌, ◌||◌, Bool, true, false, cond, not, refl, sym, ap, subst, ◌∙◌, List, [], ◌∷◌, ◌++◌, drop, Option, Some, None}
+use Rattle.std.proofs.Common.{◌≡◌, ℕ, suc, ◌==◌, ◌&&◌, ◌||◌, Bool, true, false, cond, not, refl, sym, ap, subst, ◌∙◌, List, [], ◌∷◌, drop, Option, Some, None}
 use Rattle.std.proofs.lemmas.Bool.{and_parts, eqb-true, not-true, true≢false}
 use Rattle.grammar.specs.Grammar.{is_among}
 use Rattle.wgsl_model.specs.Tokens.ClassTable.{AbstractFloat, AbstractInt, F16, F32, I32, Ident, KwDiagnostic, KwElse, KwFalse, KwTrue, ReservedWord, SymAnd, SymAttr, SymBang, SymBraceLeft, SymBraceRight, SymBracketLeft, SymBracketRight, SymColon, SymComma, SymMinus, SymMinusMinus, SymParenLeft, SymParenRight, SymPeriod, SymPlusPlus, SymSemicolon, SymStar, SymTilde, TemplateArgsEnd, TemplateArgsStart, U32}
@@ -51,7 +51,7 @@ outer_at : (layout : Layout) (os : OpenedState) (xs : Opened) → Agree layout o
 outer_at layout _ _ (agree_none) = known
 outer_at layout _ _ (agree_more kind depth os class x xs b i a) = i
 
-brackets_same : (layout : Layout) (os : OpenedState) (xs : Opened) → Agree layout os xs
+pub brackets_same : (layout : Layout) (os : OpenedState) (xs : Opened) → Agree layout os xs
     → in_brackets os ≡ not (in_block xs)
 brackets_same layout _ _ (agree_none) = refl
 brackets_same layout _ _ (agree_more kind depth os class x xs b i a) = b
@@ -64,46 +64,57 @@ outer_agree layout _ _ (agree_more kind depth os class x xs b i a) = a
 -- ---- roles
 
 -- a role that opens and closes nothing
-abbrev is_idle : Role → Bool
+abbrev pub is_idle : Role → Bool
 is_idle right = not (role_closes right) && not (opens right)
 
-idle_if : (b : Bool) (x y : Role) → is_idle x ≡ true → is_idle y ≡ true → is_idle (cond b x y) ≡ true
-idle_if true x y h k = h
-idle_if false x y h k = k
+-- nor is `@`
+abbrev pub is_plain : Role → Bool
+is_plain right = is_idle right && not (is right at)
 
-idle_else : (b : Bool) (x y : Role) → b ≡ false → is_idle y ≡ true → is_idle (cond b x y) ≡ true
-idle_else true x y e k = absurd (true≢false e)
-idle_else false x y e k = k
+pub by_if : (P : Role → Bool) (b : Bool) (x y : Role) → (b ≡ true → P x ≡ true) → P y ≡ true → P (cond b x y) ≡ true
+by_if P true x y h k = h refl
+by_if P false x y h k = k
 
-idle_sign : (b : Bool) (c : ℕ) → is_idle (sign_role b c) ≡ true
-idle_sign true c = refl
-idle_sign false c = idle_if (c == SymMinus) minus _ refl (idle_if (c == SymAnd) ampersand prefix refl refl)
+-- What holds of all roles that are plain holds of that of a token of a class, after an operand or
+-- not, if it holds of the other roles that it may have.
+module _ (P : Role → Bool) (plain : (right : Role) → is_plain right ≡ true → P right ≡ true) where
+  plain_if : (b : Bool) (x y : Role) → is_plain x ≡ true → P y ≡ true → P (cond b x y) ≡ true
+  plain_if b x y h k = by_if P b x y (λ e. plain x h) k
 
--- so is that of a token of none of these classes
-role_idle : (b : Bool) (c : ℕ) → is_among c (SymParenLeft ∷ SymBracketLeft ∷ []) ≡ false
-    → is_among c (SymParenRight ∷ SymBracketRight ∷ []) ≡ false
-    → (c == TemplateArgsStart) ≡ false → (c == TemplateArgsEnd) ≡ false
-    → (c == SymBraceLeft) ≡ false → (c == SymBraceRight) ≡ false → is_idle (role_of b c) ≡ true
-role_idle b c p q r s t u =
-    idle_if (is_among c (Ident ∷ ReservedWord ∷ KwTrue ∷ KwFalse ∷ KwDiagnostic ∷ [])) name _ refl
-    (idle_if (c == AbstractInt) unsuffixed _ refl
-    (idle_if (is_among c (I32 ∷ U32 ∷ AbstractFloat ∷ F32 ∷ F16 ∷ [])) number _ refl
-    (idle_if (c == KwElse) else_word _ refl
-    (idle_else (is_among c (SymParenLeft ∷ SymBracketLeft ∷ [])) opening _ p
-    (idle_else (is_among c (SymParenRight ∷ SymBracketRight ∷ [])) closing _ q
-    (idle_else (c == TemplateArgsStart) template_start _ r
-    (idle_else (c == TemplateArgsEnd) template_end _ s
-    (idle_else (c == SymBraceLeft) block_start _ t
-    (idle_else (c == SymBraceRight) block_end _ u
-    (idle_if (c == SymComma) comma _ refl
-    (idle_if (c == SymSemicolon) semicolon _ refl
-    (idle_if (c == SymColon) colon _ refl
-    (idle_if (c == SymPeriod) period _ refl
-    (idle_if (c == SymAttr) at _ refl
-    (idle_if (is_among c (SymMinus ∷ SymAnd ∷ SymStar ∷ [])) (sign_role b c) _ (idle_sign b c)
-    (idle_if (is_among c (SymBang ∷ SymTilde ∷ [])) prefix _ refl
-    (idle_if (is_among c (SymPlusPlus ∷ SymMinusMinus ∷ [])) step _ refl
-    (idle_if (is_operator c) binary _ refl refl))))))))))))))))))
+  sign_by : (b : Bool) (c : ℕ) → P (sign_role b c) ≡ true
+  sign_by true c = plain binary refl
+  sign_by false c = plain_if (c == SymMinus) minus _ refl
+      (plain_if (c == SymAnd) ampersand prefix refl (plain prefix refl))
+
+  pub role_by : (b : Bool) (c : ℕ) → (is_among c (SymParenLeft ∷ SymBracketLeft ∷ []) ≡ true → P opening ≡ true)
+      → (is_among c (SymParenRight ∷ SymBracketRight ∷ []) ≡ true → P closing ≡ true)
+      → ((c == TemplateArgsStart) ≡ true → P template_start ≡ true)
+      → ((c == TemplateArgsEnd) ≡ true → P template_end ≡ true)
+      → ((c == SymBraceLeft) ≡ true → P block_start ≡ true) → ((c == SymBraceRight) ≡ true → P block_end ≡ true)
+      → ((c == SymAttr) ≡ true → P at ≡ true) → P (role_of b c) ≡ true
+  role_by b c p q r s t u v =
+      plain_if (is_among c (Ident ∷ ReservedWord ∷ KwTrue ∷ KwFalse ∷ KwDiagnostic ∷ [])) name _ refl
+      (plain_if (c == AbstractInt) unsuffixed _ refl
+      (plain_if (is_among c (I32 ∷ U32 ∷ AbstractFloat ∷ F32 ∷ F16 ∷ [])) number _ refl
+      (plain_if (c == KwElse) else_word _ refl
+      (by_if P (is_among c (SymParenLeft ∷ SymBracketLeft ∷ [])) opening _ p
+      (by_if P (is_among c (SymParenRight ∷ SymBracketRight ∷ [])) closing _ q
+      (by_if P (c == TemplateArgsStart) template_start _ r
+      (by_if P (c == TemplateArgsEnd) template_end _ s
+      (by_if P (c == SymBraceLeft) block_start _ t
+      (by_if P (c == SymBraceRight) block_end _ u
+      (plain_if (c == SymComma) comma _ refl
+      (plain_if (c == SymSemicolon) semicolon _ refl
+      (plain_if (c == SymColon) colon _ refl
+      (plain_if (c == SymPeriod) period _ refl
+      (by_if P (c == SymAttr) at _ v
+      (by_if P (is_among c (SymMinus ∷ SymAnd ∷ SymStar ∷ [])) (sign_role b c) _ (λ e. sign_by b c)
+      (plain_if (is_among c (SymBang ∷ SymTilde ∷ [])) prefix _ refl
+      (plain_if (is_among c (SymPlusPlus ∷ SymMinusMinus ∷ [])) step _ refl
+      (plain_if (is_operator c) binary _ refl (plain word refl)))))))))))))))))))
+
+no_class : (b : Bool) → b ≡ false → {x : Bool} → b ≡ true → x ≡ true
+no_class b e h = absurd (true≢false (sym h ∙ e))
 
 -- what a token of a class does, by its role
 data Does (class : ℕ) : Role → Type 0 where
@@ -125,9 +136,13 @@ does state class operand =
     by_class TemplateArgsEnd (closes_any template_end refl refl refl refl) (λ f.
     by_class SymBraceLeft (opens_block refl refl) (λ g.
     by_class SymBraceRight (closes_any block_end refl refl refl refl) (λ h.
-    does_neither (role_in state class operand) (idle_if (class == SymMinusMinus && operand) binary _ refl
-    (role_idle (ends_operand state.last) class (rw (a, b) refl) (rw (c, d) refl) e f g h)) g
-    (rw (a, b, e, g) refl) (rw (c, d, f, h) refl)))))))))
+    (let openings : is_among class (SymParenLeft ∷ SymBracketLeft ∷ []) ≡ false = rw (a, b) refl in
+    let closings : is_among class (SymParenRight ∷ SymBracketRight ∷ []) ≡ false = rw (c, d) refl in
+    does_neither (role_in state class operand)
+    (by_if is_idle (class == SymMinusMinus && operand) binary _ (λ e. refl)
+    (role_by is_idle (λ r p. (and_parts (is_idle r) (not (is r at)) p).0) (ends_operand state.last) class
+    (no_class _ openings) (no_class _ closings) (no_class _ e) (no_class _ f) (no_class _ g) (no_class _ h)
+    (λ p. refl))) g (rw (a, b, e, g) refl) (rw (c, d, f, h) refl))))))))))
   where
     by_class : (k : ℕ) → Does k (role_in state k operand)
         → ((class == k) ≡ false → Does class (role_in state class operand))
@@ -157,46 +172,62 @@ not_false : (b : Bool) → not b ≡ false → b ≡ true
 not_false true h = refl
 not_false false h = absurd (true≢false h)
 
-module _ (layout : Layout) (state : LayoutState) (class : ℕ) (xs : Opened) (a : Agree layout state.opened xs) where
+or_first : (x y : Bool) → (x || y) ≡ false → x ≡ false
+or_first true y h = absurd (true≢false h)
+or_first false y h = refl
+
+-- where an item ends before a token in a block or outside of all, another begins
+abbrev pub ItemBegins : Bool → Opened → LayoutState → Type 0
+ItemBegins after_item xs state = after_item ≡ true → in_block xs ≡ true → begins state ≡ true
+
+no_item : (after_item : Bool) (xs : Opened) (state : LayoutState) → ItemBegins after_item xs state
+    → in_block xs ≡ true → begins state ≡ false → after_item ≡ false
+no_item true xs state h b e = absurd (true≢false (sym (h refl b) ∙ e))
+no_item false xs state h b e = refl
+
+module _ (layout : Layout) (state : LayoutState) (class : ℕ) (xs : Opened) (a : Agree layout state.opened xs)
+    (item : Bool) (i : ItemBegins item xs state) where
   indented_inside : (right : Role) → token_closes class ≡ false
-      → IsIndented layout xs class (indentation layout (depth_within state right))
-  indented_inside right c = go (in_brackets state.opened) (begins state || is right block_start) refl
+      → IsIndented layout xs item class (indentation layout (depth_within state right))
+  indented_inside right c = go (in_brackets state.opened) (begins state || is right block_start) refl refl
     where
       inner : IsAt layout (inner_depth state.opened) (inner_indent layout xs)
       inner = inner_at layout state.opened xs a
 
-      go : (b d : Bool) → in_brackets state.opened ≡ b
-          → IsIndented layout xs class (indentation layout
+      go : (b d : Bool) → in_brackets state.opened ≡ b → (begins state || is right block_start) ≡ d
+          → IsIndented layout xs item class (indentation layout
           (cond (b || d) (inner_depth state.opened) (suc (inner_depth state.opened))))
-      go true d e = inside c (space_at layout (inner_depth state.opened) (inner_indent layout xs) inner)
-      go false true e = inside c (space_at layout (inner_depth state.opened) (inner_indent layout xs) inner)
-      go false false e =
-          goes_on c (not_false (in_block xs) (sym (brackets_same layout state.opened xs a) ∙ e))
+      go true d e f = inside c (space_at layout (inner_depth state.opened) (inner_indent layout xs) inner)
+      go false true e f = inside c (space_at layout (inner_depth state.opened) (inner_indent layout xs) inner)
+      go false false e f =
+          let here = not_false (in_block xs) (sym (brackets_same layout state.opened xs a) ∙ e) in
+          goes_on c here (no_item item xs state i here (or_first (begins state) (is right block_start) f))
           (space_at layout (suc (inner_depth state.opened)) (deeper layout (inner_indent layout xs))
           (deeper_at layout (inner_depth state.opened) (inner_indent layout xs) inner))
 
   indented_by : (right : Role) → Does class right
-      → IsIndented layout xs class (indentation layout (depth_of state right))
+      → IsIndented layout xs item class (indentation layout (depth_of state right))
   indented_by _ (opens_block e c) = indented_inside block_start c
   indented_by _ (opens_list right o e p c) =
-      subst (λ d. IsIndented layout xs class (indentation layout d))
+      subst (λ d. IsIndented layout xs item class (indentation layout d))
       (sym (depth_inside state right (list_closes_none right o))) (indented_inside right c)
   indented_by _ (closes_any right h e o c) =
-      subst (λ d. IsIndented layout xs class (indentation layout d)) (sym (depth_closing state right h))
+      subst (λ d. IsIndented layout xs item class (indentation layout d)) (sym (depth_closing state right h))
       (closes_there c (space_at layout (outer_depth state.opened) (outer_indent xs)
       (outer_at layout state.opened xs a)))
   indented_by _ (does_neither right h e o c) =
       let parts = and_parts (not (role_closes right)) (not (opens right)) h in
-      subst (λ d. IsIndented layout xs class (indentation layout d))
+      subst (λ d. IsIndented layout xs item class (indentation layout d))
       (sym (depth_inside state right (not-true (role_closes right) parts.0))) (indented_inside right c)
 
   -- the line of a token is as deep as it is to be
   pub indented : (operand : Bool)
-      → IsIndented layout xs class (indentation layout (depth_of state (role_in state class operand)))
+      → IsIndented layout xs item class (indentation layout (depth_of state (role_in state class operand)))
   indented operand = indented_by (role_in state class operand) (does state class operand)
 
-  -- ---- what is open after it
+-- ---- what is open after a token
 
+module _ (layout : Layout) (state : LayoutState) (class : ℕ) (xs : Opened) (a : Agree layout state.opened xs) where
   block_kind : (b : Bool) (depth : ℕ) (os : OpenedState) → in_brackets ((cond b members block, depth) ∷ os) ≡ false
   block_kind true depth os = refl
   block_kind false depth os = refl

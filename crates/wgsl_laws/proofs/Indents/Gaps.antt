@@ -1,8 +1,8 @@
 -- The line in which a piece is formatted after a gap, and how deep it is.
 use Rattle.std.proofs.Common.{◌≡◌, ℕ, zero, suc, Bool, true, false, cond, refl, sym, ap, subst, ◌∙◌, List, [], ◌∷◌, ◌++◌, append_assoc}
-use Rattle.wgsl_model.specs.Tokens.Trivia.{Place, outside, in_line}
+use Rattle.wgsl_model.specs.Tokens.Trivia.{Place, outside}
 use Rattle.wgsl_model_tidy.specs.Lines.{place_of}
-use Rattle.wgsl_model_tidy.specs.Brackets.{Line, blank, begun, in_comment, line_of}
+use Rattle.wgsl_model_tidy.specs.Brackets.{Line, blank, begun, line_of}
 use Rattle.wgsl_model_tidy.specs.Roles.{Role, beginning, is}
 use Rattle.wgsl_model_tidy.specs.Joints.{Joint, line, nothing, space, nothing_or_line, space_or_line, joint}
 use Rattle.wgsl_model_tidy.specs.Layout.{Layout}
@@ -165,8 +165,7 @@ gap_over layout spot opened l (within _ h) empty depth gap g c rest =
     within_over layout spot.last spot.state.line opened l h empty depth gap g rest
 gap_over layout spot opened _ (at_start e b n m) empty depth gap g c rest =
     let none : gap ≡ closed = c e b in
-    let line_depth : depth_after gap spot.state.line ≡ 0 = ap (λ x. depth_after x spot.state.line) none ∙ n in
-    (
+    let line_depth : depth_after gap spot.state.line ≡ 0 = ap (λ x. depth_after x spot.state.line) none ∙ n in (
       blank [],
       first line_depth m,
       subst (λ x. Through (place_of_last spot.last) (blank []) (gap_text layout x) rest outside (blank [])) (sym none)

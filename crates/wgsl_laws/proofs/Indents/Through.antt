@@ -1,11 +1,11 @@
 -- The place and the line after a front of a text: over blank space, tokens and comments.
-use Rattle.std.proofs.Common.{◌≡◌, ℕ, zero, suc, ◌==◌, ◌&&◌, ◌||◌, Bool, true, false, cond, not, refl, sym, ap, ap₂, subst, ◌∙◌, List, [], ◌∷◌, ◌++◌, append_assoc, append-nil, arith}
+use Rattle.std.proofs.Common.{◌≡◌, ℕ, zero, suc, ◌==◌, ◌&&◌, ◌||◌, Bool, true, false, not, refl, sym, ap, ap₂, subst, ◌∙◌, List, [], ◌∷◌, ◌++◌, append_assoc, append-nil, arith}
 use Rattle.std.proofs.lemmas.Bool.{and_parts, eqb-true, not-true, true≢false, false_from_ne_true}
 use Rattle.std.specs.Char.{is_whitespace}
 use Rattle.wgsl_model.specs.Tokens.Characters.{is_blank, is_line_break}
-use Rattle.wgsl_model.specs.Tokens.ClassTable.{LineComment, BlockComment}
+use Rattle.wgsl_model.specs.Tokens.ClassTable.{BlockComment}
 use Rattle.wgsl_model.specs.Tokens.Kind.{Kind}
-use Rattle.wgsl_model.specs.Tokens.Trivia.{Place, outside, in_line, in_block, second, out_of_block, first_or_zero}
+use Rattle.wgsl_model.specs.Tokens.Trivia.{Place, outside, in_line, in_block, second, first_or_zero}
 use Rattle.wgsl_model_tidy.specs.Lines.{next_place, place_after}
 use Rattle.wgsl_model_tidy.specs.Brackets.{Line, blank, begun, in_comment, next_line, line_after}
 use Rattle.wgsl_model_tidy.specs.Layout.{Layout}
@@ -292,9 +292,12 @@ two_through layout at depth c d ds h l rest i deep left =
         (deep n (after_closing n c d ds e f (subst (λ n. UpToEnd n (c ∷ (d ∷ ds))) s h)) l i)
     go false false e f k s =
         let after = left (after_other depth c (d ∷ ds) e f h) (next_line (in_block depth) l c)
-        (still_in layout at depth l c i) in
-        (after.0, after.1, one (in_block depth) (in_block depth) outside l (next_line (in_block depth) l c) after.0 c
-        (d ∷ ds) rest (rw (e, f) refl) refl after.2)
+        (still_in layout at depth l c i) in (
+          after.0,
+          after.1,
+          one (in_block depth) (in_block depth) outside l (next_line (in_block depth) l c) after.0 c
+              (d ∷ ds) rest (rw (e, f) refl) refl after.2,
+        )
 
 -- over a block comment from inside it
 block_through : (layout : Layout) (at depth : ℕ) (xs : List ℕ) → UpToEnd depth xs → (l : Line) (rest : List ℕ)
