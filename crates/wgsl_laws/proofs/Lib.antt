@@ -1,2 +1,3 @@
 mod Hints
 mod LawNodes
+mod Indents

@@ -6,3 +6,4 @@ pub mod DirectivesRows
 pub mod UnitsRows
 pub mod DialectRows
 pub mod Hashes
+pub mod Indents

@@ -14,9 +14,9 @@ ghost use Rattle.wgsl_model_tidy.specs.Formatted.{unmarked, ends_crlf, formatted
 ghost use Rattle.wgsl_model_tidy.specs.NonBlank.{non_blank};
 ghost use Rattle.wgsl_model_tidy.specs.Lines.{BreaksLinesByLF, HasNoTrailingWhiteSpace};
 ghost use Rattle.wgsl_model_tidy.specs.Lines.{HasNoTwoEmptyLines, BeginsWithNoLineBreak};
-ghost use Rattle.wgsl_model_tidy.specs.Brackets.{AlignsClosingBrackets};
 ghost use Rattle.wgsl_model_tidy.specs.Lines.{EndsWithOneLineEnd, EndsLinesWithCRLF, HasNoCRLF};
 ghost use Rattle.wgsl_model_tidy.specs.Kept.{Keeps};
+ghost use Rattle.wgsl_laws.specs.Indents.{IndentsLines};
 
 /// A text without an invalid token, formatted by any layout, has the same byte order mark or none,
 /// and the same tokens and comments, but for CR before LF in block comments and spaces and tabs
@@ -71,11 +71,14 @@ pub fn formatted_lines()
         EndsWithOneLineEnd (laid_out layout (pieces source ts)) }
 {}
 
-/// In a module formatted by any layout, a closing bracket `)` or `]` that begins a line has the
-/// same blank space before it as the line of its opening bracket, if neither line begins inside a
-/// block comment. Names and attributes are not checked: a module by its syntax is enough.
-pub fn formatted_brackets()
+/// In a module formatted by any layout, a line that begins with `)`, `]`, `}` or the `>` of a
+/// template list is as deep as what it closes: a bracket or a template list as the line where it
+/// opens, a block as the lines around it. A line that begins with any other token is one level deeper
+/// than what it is in, or in a block and outside of all maybe two, where no `;`, `{` or `}` is before
+/// it. Nothing is said in a bracket or a template list whose line begins inside a block comment.
+/// Names and attributes are not checked: a module by its syntax is enough.
+pub fn formatted_indents()
     ensures { (layout : Layout) (source : List ℕ) (ts : List Token)
         (read : IsTokenList source ts finished) (derived : IsSentence written unit ts) →
-        AlignsClosingBrackets (laid_out layout (pieces source ts)) }
+        IndentsLines layout (laid_out layout (pieces source ts)) }
 {}

@@ -125,6 +125,7 @@ pub use Rattle.wgsl_model_tidy.specs.NonBlank
 pub use Rattle.wgsl_model_tidy.specs.Lines
 pub use Rattle.wgsl_model_tidy.specs.Brackets
 pub use Rattle.wgsl_model_tidy.specs.Shown
+pub use Rattle.wgsl_laws.specs.Indents
 pub use Rattle.wgsl_model_tidy.specs.Kept as KeptPieces
 pub use Rattle.wgsl_model_tidy.specs.Syntax
 pub use Rattle.wgsl_model_tidy.specs.Tidied

@@ -74,7 +74,7 @@ pub mod laws {
         checked_is_full, no_less_derived, one_fault, one_name, one_tree, syntax_fault,
     };
     pub use wgsl_laws::laid_out::{
-        formatted_brackets, formatted_characters, formatted_line_ends, formatted_lines,
+        formatted_characters, formatted_indents, formatted_line_ends, formatted_lines,
         laid_out_keeps,
     };
     pub use wgsl_laws::paths::{join_laws, path_text, starts_with_laws};
