@@ -4,19 +4,19 @@
 
 mod formatter;
 mod printer;
+mod printing;
 mod program;
 mod report;
 mod source;
-mod start;
 mod streams;
 mod tidied;
 mod tidier;
 
 pub use formatter::Formatter;
 pub use printer::Printer;
+pub use printing::{run, start, start_with};
 pub use program::run_with;
 pub use report::Report;
-pub use start::{run, start, start_with};
 pub use streams::{ReadError, read_all, refuse_memory, send};
 pub use tidied::{tidy, tidy_with, tidy_within};
 pub use tidier::Tidier;
