@@ -8,6 +8,7 @@ use crate::report::{Report, refused};
 use std::alloc::{AllocError, Global};
 use std::mem::forget;
 use wgsl_parser::parse_within;
+use wgsl_tree_unit::TranslationUnit;
 
 /// The formatter of `wgslfmt`: it prints the unit of a module.
 #[derive(Clone, Copy, Debug)]
@@ -31,14 +32,17 @@ impl Formatter for Printer {
             Ok(unit) => {
                 let mut printed = String::with_capacity(alloc, text.len())?;
                 write!(printed, "{unit}")?;
-                if self.ends {
-                    forget(unit);
-                } else {
-                    drop(unit);
-                }
+                leave(unit, self.ends);
                 Ok(Report::Written(printed))
             }
             Err(error) => refused(alloc, error),
         }
+    }
+}
+
+/// Frees a unit, unless the process ends.
+fn leave(unit: TranslationUnit, ends: bool) {
+    if ends {
+        forget(unit);
     }
 }

@@ -1,6 +1,5 @@
-use Rattle.std.proofs.Common.{◌≡◌, ◌++◌, string_bytes, ap, ◌∙◌}
+use Rattle.std.proofs.Common.{◌≡◌, ℕ, List, [], ◌++◌, ap, ◌∙◌}
 use Rattle.std.proofs.lemmas.Str.{IsUtf8-had, is_utf8-from_IsUtf8}
-use Rattle.wgsl_model.specs.Printed.Units.{print_unit}
 use Rattle.wgsl_model.specs.Program.{Formats, Formats.refused, Formats.not_utf8}
 use Rattle.wgsl_tree_unit.specs.View.{unit_view}
 use Rattle.wgsl_format.specs.RunOutput.{IsReprinted}
@@ -11,25 +10,23 @@ use Rattle.wgsl_format.proofs.printer.PrinterFormatter.report.Goals as goal
 pub returns-in_default-clause-due : goal.returns-in_default-clause-due
 returns-in_default-clause-due c = not_utf8 (no_text _ c.in_default.ensures.cases.0)
 
--- the text is the printed unit
-written : (c : goal.In_ok-write-in-Ok-parse_within)
-    → string_bytes c.write.new.self ≡ print_unit (unit_view c.in-Ok-parse_within.unit)
-written c =
-    let empty = c.in_ok-printed-in-Ok-parse_within.ensures.bytes in
-    c.in_ok-write-in-Ok-parse_within.ensures.bytes
-    ∙ ap (λ before. before ++ print_unit (unit_view c.in-Ok-parse_within.unit)) empty
+-- what is written after nothing is the whole text
+written : (text empty unit : List ℕ) → text ≡ empty ++ unit → empty ≡ [] → text ≡ unit
+written text empty unit whole none = whole ∙ ap (λ before. before ++ unit) none
 
 pub returns-in_ok-write-in-Ok-parse_within-clause-due : goal.returns-in_ok-write-in-Ok-parse_within-clause-due
 returns-in_ok-write-in-Ok-parse_within-clause-due c =
     let source = c.in-Ok.ensures.cases in
     let derived = rw source.0 at c.in-Ok-parse_within.ensures.accepted in
-    formats_unit _ _ (unit_view c.in-Ok-parse_within.unit) (is_utf8-from_IsUtf8 _ source.1) derived (written c)
+    formats_unit _ _ (unit_view c.in-Ok-parse_within.unit) (is_utf8-from_IsUtf8 _ source.1) derived
+    (written _ _ _ c.in_ok-write-in-Ok-parse_within.ensures.bytes c.in_ok-printed-in-Ok-parse_within.ensures.bytes)
 
 pub returns-in_ok-write-in-Ok-parse_within-clause-made : goal.returns-in_ok-write-in-Ok-parse_within-clause-made
 returns-in_ok-write-in-Ok-parse_within-clause-made c = λ _.
     let source = c.in-Ok.ensures.cases in
     let derived = rw source.0 at c.in-Ok-parse_within.ensures.accepted in
-    reprinted _ _ (unit_view c.in-Ok-parse_within.unit) derived (written c)
+    reprinted _ _ (unit_view c.in-Ok-parse_within.unit) derived
+    (written _ _ _ c.in_ok-write-in-Ok-parse_within.ensures.bytes c.in_ok-printed-in-Ok-parse_within.ensures.bytes)
     (is_utf8-from_IsUtf8 _ (IsUtf8-had _ c.write.new.self.ok))
 
 pub returns-in-Err-clause-due : goal.returns-in-Err-clause-due
