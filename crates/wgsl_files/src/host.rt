@@ -34,12 +34,12 @@ impl<'a, R: Files + AllocGlobal + Clone + Drop> Store for HostStore<'a, R> {
 
     /// The links of its folders are followed, up to the last folder that exists.
     fn absolute(&self, alloc: Global, path: &str) -> Result<String, AllocError> {
-        let path = Path::new(path);
+        let path = Path::new(or_here(path));
         for folder in path.ancestors().skip(1) {
             let Ok(rest) = path.strip_prefix(folder) else {
                 break;
             };
-            match self.rt.canonicalize(alloc, name_of(folder)) {
+            match self.rt.canonicalize(alloc, or_here(folder.as_str())) {
                 Ok(found) => return Ok(found.join(alloc, rest)?.into_string()),
                 Err(error) if error.kind() == ErrorKind::OutOfMemory => return Err(AllocError),
                 Err(_) => {}
@@ -71,12 +71,9 @@ impl<'a, R: Files + AllocGlobal + Clone + Drop> Store for HostStore<'a, R> {
     }
 }
 
-/// The path of a folder of a path, which is empty for the current one.
-fn name_of(folder: Path<'_>) -> &str {
-    match folder.as_str() {
-        "" => ".",
-        path => path,
-    }
+/// A path, which is `.` in place of an empty one.
+fn or_here(path: &str) -> &str {
+    if path.is_empty() { "." } else { path }
 }
 
 /// How many names are tried for a new file.

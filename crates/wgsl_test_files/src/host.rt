@@ -128,6 +128,12 @@ fn finds_paths_from_the_root(rt: HostRuntime) -> Result<(), Fail> {
             );
         }
     }
+    assert!(rt;
+        store
+            .absolute(alloc, "")?
+            .as_str()
+            .starts_with(here.as_str())
+    );
     assert!(rt; store.absolute(alloc, "/none/a.wgsl")?.as_str() == "/none/a.wgsl");
     fs::remove_dir_all(&rt, folder.as_str())?;
     Ok(())
