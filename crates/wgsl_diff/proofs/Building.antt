@@ -1,78 +1,97 @@
 -- The lines of a diff as they are put together.
-use Rattle.std.proofs.Common.{◌≡◌, ap, ◌∙◌, sym, ℕ, ◌+◌, ◌-◌, ◌<◌, List, [], ◌∷◌, ◌++◌, length, map, take, drop, get_or, append_assoc, take-add, arith}
-use Rattle.std.proofs.lemmas.List.{map-append, map_more, append-nil}
+use Rattle.std.proofs.Common.{◌≡◌, ◌⊎◌, ap, ◌∙◌, sym, subst, ℕ, ◌+◌, ◌-◌, ◌<◌, List, [], ◌∷◌, ◌++◌, length, map, take, drop, get_or, append_assoc, arith}
+use Rattle.std.proofs.lemmas.List.{at_drop_more, drop-drop, drop-map, length-map, map_more, map_push, take-map}
 use Rattle.std.specs.Borrow.{Bor}
-use Rattle.wgsl_diff.specs.Diffs.{old_lines, new_lines}
+use Rattle.wgsl_diff.specs.Diffs as plain
 use Rattle.wgsl_diff.specs.View.{line_view, texts_of}
+use Rattle.wgsl_diff.specs.Matching.{GoOn, IsBlock}
 use Rattle.wgsl_diff.specs.declared.line.Line.{Line}
-use Rattle.wgsl_diff.specs.declared.line.Line.TheVariants.{Kept, Removed, Added}
-use Rattle.wgsl_diff.proofs.DiffLines.{old_lines-push, new_lines-push}
+use Rattle.wgsl_diff.specs.declared.line.Line.TheVariants.{Kept}
+use Rattle.wgsl_diff.proofs.Scripts.{Completes, kept_step, change_step}
 
--- one text more
-texts_more : (texts : List (Bor (List ℕ))) (i : ℕ) (d : Bor (List ℕ)) → i < length texts
-    → texts_of (take i texts) ++ (get_or texts i d).now ∷ [] ≡ texts_of (take (i + 1) texts)
-texts_more texts i d within = sym (map_more (λ text. text.now) texts i d within)
+-- lines of one sign, with one more
+pub pushed_more : (code : Bor (List ℕ) → Line) (sign : List ℕ → plain.Line)
+    → ((text : Bor (List ℕ)) → line_view (code text) ≡ sign text.now)
+    → (first lines made : List Line) (texts : List (Bor (List ℕ))) (i : ℕ) (d : Bor (List ℕ)) → i < length texts
+    → made ≡ lines ++ code (get_or texts i d) ∷ []
+    → map line_view lines ≡ map line_view first ++ map sign (texts_of (take i texts))
+    → map line_view made ≡ map line_view first ++ map sign (texts_of (take (i + 1) texts))
+pushed_more code sign is first lines made texts i d within pushed before =
+    let one = get_or texts i d in
+    let so_far = map sign (texts_of (take i texts)) in
+    ap (map line_view) pushed ∙ map_push line_view lines (code one)
+    ∙ ap (λ line. map line_view lines ++ line ∷ []) (is one)
+    ∙ ap (λ ls. ls ++ sign one.now ∷ []) before
+    ∙ append_assoc (map line_view first) so_far (sign one.now ∷ [])
+    ∙ ap (λ ls. map line_view first ++ ls) (sym (map_push sign (texts_of (take i texts)) one.now)
+    ∙ ap (map sign) (sym (map_more (λ (text : Bor (List ℕ)). text.now) texts i d within)))
 
--- some texts more
-texts_add : (texts : List (Bor (List ℕ))) (i n : ℕ)
-    → texts_of (take (i + n) texts) ≡ texts_of (take i texts) ++ texts_of (take n (drop i texts))
-texts_add texts i n = ap texts_of (take-add i n texts)
-    ∙ map-append (λ text. text.now) (take i texts) (take n (drop i texts))
-
-module _ (first lines made : List Line) (texts : List (Bor (List ℕ))) (i : ℕ) (d : Bor (List ℕ))
-    (within : i < length texts) where
-  pub removed_old : made ≡ lines ++ Removed (get_or texts i d) ∷ []
-      → old_lines (map line_view lines) ≡ old_lines (map line_view first) ++ texts_of (take i texts)
-      → old_lines (map line_view made) ≡ old_lines (map line_view first) ++ texts_of (take (i + 1) texts)
-  removed_old pushed before =
-      old_lines-push lines made (Removed (get_or texts i d)) pushed
-      ∙ ap (λ ls. ls ++ (get_or texts i d).now ∷ []) before
-      ∙ append_assoc (old_lines (map line_view first)) (texts_of (take i texts)) ((get_or texts i d).now ∷ [])
-      ∙ ap (λ ls. old_lines (map line_view first) ++ ls) (texts_more texts i d within)
-
-  pub removed_new : made ≡ lines ++ Removed (get_or texts i d) ∷ []
-      → new_lines (map line_view lines) ≡ new_lines (map line_view first)
-      → new_lines (map line_view made) ≡ new_lines (map line_view first)
-  removed_new pushed before = new_lines-push lines made (Removed (get_or texts i d)) pushed
-      ∙ append-nil (new_lines (map line_view lines)) ∙ before
-
-  pub added_new : made ≡ lines ++ Added (get_or texts i d) ∷ []
-      → new_lines (map line_view lines) ≡ new_lines (map line_view first) ++ texts_of (take i texts)
-      → new_lines (map line_view made) ≡ new_lines (map line_view first) ++ texts_of (take (i + 1) texts)
-  added_new pushed before =
-      new_lines-push lines made (Added (get_or texts i d)) pushed
-      ∙ ap (λ ls. ls ++ (get_or texts i d).now ∷ []) before
-      ∙ append_assoc (new_lines (map line_view first)) (texts_of (take i texts)) ((get_or texts i d).now ∷ [])
-      ∙ ap (λ ls. new_lines (map line_view first) ++ ls) (texts_more texts i d within)
-
-  pub added_old : made ≡ lines ++ Added (get_or texts i d) ∷ []
-      → old_lines (map line_view lines) ≡ old_lines (map line_view first)
-      → old_lines (map line_view made) ≡ old_lines (map line_view first)
-  added_old pushed before = old_lines-push lines made (Added (get_or texts i d)) pushed
-      ∙ append-nil (old_lines (map line_view lines)) ∙ before
-
--- a line that both texts have
-pub kept_old : (lines made : List Line) (before : List (Bor (List ℕ))) (i : ℕ) (d : Bor (List ℕ)) → i < length before
-    → made ≡ lines ++ Kept (get_or before i d) ∷ [] → old_lines (map line_view lines) ≡ texts_of (take i before)
-    → old_lines (map line_view made) ≡ texts_of (take (i + 1) before)
-kept_old lines made before i d within pushed so_far =
-    old_lines-push lines made (Kept (get_or before i d)) pushed
-    ∙ ap (λ ls. ls ++ (get_or before i d).now ∷ []) so_far ∙ texts_more before i d within
-
-pub kept_new : (lines made : List Line) (text : Bor (List ℕ)) (after : List (Bor (List ℕ))) (j : ℕ)
-    (d : Bor (List ℕ)) → j < length after
-    → text.now ≡ (get_or after j d).now → made ≡ lines ++ Kept text ∷ []
-    → new_lines (map line_view lines) ≡ texts_of (take j after)
-    → new_lines (map line_view made) ≡ texts_of (take (j + 1) after)
-kept_new lines made text after j d within same pushed so_far =
-    new_lines-push lines made (Kept text) pushed ∙ ap (λ ls. ls ++ text.now ∷ []) so_far
-    ∙ ap (λ t. texts_of (take j after) ++ t ∷ []) same ∙ texts_more after j d within
-
--- lines of one text, after lines of both
-pub changed : (first second third : List (List ℕ)) (texts : List (Bor (List ℕ))) (i n : ℕ)
-    → first ≡ texts_of (take i texts) → second ≡ first ++ texts_of (take (i + n - i) (drop i texts)) → third ≡ second
-    → third ≡ texts_of (take (i + n) texts)
-changed first second third texts i n so_far added same =
+-- some texts of those that are left, and the others
+part_is : (texts us : List (Bor (List ℕ))) (i n : ℕ) → us ≡ drop i texts
+    → texts_of (take (i + n - i) (drop i texts)) ≡ take n (texts_of us)
+part_is texts us i n us_is =
     let count : i + n - i ≡ n = omega arith in
-    same ∙ added ∙ ap (λ ls. ls ++ texts_of (take (i + n - i) (drop i texts))) so_far
-    ∙ ap (λ k. texts_of (take i texts) ++ texts_of (take k (drop i texts))) count ∙ sym (texts_add texts i n)
+    ap (λ k. texts_of (take k (drop i texts))) count
+    ∙ sym (take-map (λ (text : Bor (List ℕ)). text.now) n (drop i texts))
+    ∙ ap (λ ts. take n (texts_of ts)) (sym us_is)
+
+rest_is : (texts us : List (Bor (List ℕ))) (i n : ℕ) → us ≡ drop i texts
+    → drop n (texts_of us) ≡ texts_of (drop (i + n) texts)
+rest_is texts us i n us_is =
+    drop-map (λ (text : Bor (List ℕ)). text.now) n us ∙ ap (λ ts. texts_of (drop n ts)) us_is
+    ∙ ap texts_of (drop-drop n i texts)
+
+module _ (before after : List (Bor (List ℕ))) (i j : ℕ) (lines made : List Line) (more : List plain.Line)
+    (all : (rest : List plain.Line) → Completes (texts_of (drop i before)) (texts_of (drop j after)) rest
+    → Completes (texts_of before) (texts_of after) (map line_view lines ++ rest)) where
+  -- a line that both texts have, and what completes it
+  pub next_kept : (d e : Bor (List ℕ)) → i < length before → j < length after
+      → (get_or before i d).now ≡ (get_or after j e).now → made ≡ lines ++ Kept (get_or before i d) ∷ []
+      → Completes (texts_of (drop (i + 1) before)) (texts_of (drop (j + 1) after)) more
+      → Completes (texts_of before) (texts_of after) (map line_view made ++ more)
+  next_kept d e within others same pushed completes =
+      let text = (get_or before i d).now in
+      let old = texts_of (drop (i + 1) before) in
+      let new = texts_of (drop (j + 1) after) in
+      let rest = plain.kept text ∷ more in
+      subst (Completes (texts_of before) (texts_of after))
+      (sym (ap (λ ls. map line_view ls ++ more) pushed
+      ∙ ap (λ ls. ls ++ more) (map_push line_view lines (Kept (get_or before i d)))
+      ∙ append_assoc (map line_view lines) (plain.kept text ∷ []) more))
+      (all rest (subst (λ ls. Completes ls (texts_of (drop j after)) rest)
+      (sym (at_drop_more texts_of before i d within))
+      (subst (λ ls. Completes (text ∷ old) ls rest)
+      (sym (at_drop_more texts_of after j e others ∙ ap (λ line. line ∷ new) (sym same)))
+      (kept_step text old new more completes))))
+
+  -- lines that one of the texts has, and what completes them
+  pub next_change : (us vs : List (Bor (List ℕ))) (middle : List Line) (r a : ℕ)
+      → us ≡ drop i before → vs ≡ drop j after
+      → map line_view middle
+      ≡ map line_view lines ++ map plain.removed (texts_of (take (i + r - i) (drop i before)))
+      → map line_view made ≡ map line_view middle ++ map plain.added (texts_of (take (j + a - j) (drop j after)))
+      → plain.AreApart (take r (texts_of us)) (take a (texts_of vs)) → ¬ (GoOn (texts_of us) (texts_of vs))
+      → GoOn (drop r (texts_of us)) (drop a (texts_of vs)) ⊎ (IsBlock r (length us) × IsBlock a (length vs))
+      → Completes (texts_of (drop (i + r) before)) (texts_of (drop (j + a) after)) more
+      → Completes (texts_of before) (texts_of after) (map line_view made ++ more)
+  next_change us vs middle r a us_is vs_is first second apart other ends completes =
+      let gone = map plain.removed (take r (texts_of us)) in
+      let come = map plain.added (take a (texts_of vs)) in
+      let rest = gone ++ (come ++ more) in
+      let left = subst (λ ls. Completes ls (drop a (texts_of vs)) more) (sym (rest_is before us i r us_is))
+      (subst (λ ls. Completes (texts_of (drop (i + r) before)) ls more) (sym (rest_is after vs j a vs_is)) completes) in
+      let blocks = subst (λ n. GoOn (drop r (texts_of us)) (drop a (texts_of vs))
+      ⊎ (IsBlock r n × IsBlock a (length (texts_of vs))))
+      (sym (length-map us (λ text. text.now)))
+      (subst (λ n. GoOn (drop r (texts_of us)) (drop a (texts_of vs)) ⊎ (IsBlock r (length us) × IsBlock a n))
+      (sym (length-map vs (λ text. text.now))) ends) in
+      subst (Completes (texts_of before) (texts_of after))
+      (sym (ap (λ ls. ls ++ more)
+      (second ∙ ap (λ ls. ls ++ map plain.added (texts_of (take (j + a - j) (drop j after)))) first
+      ∙ ap (λ ts. (map line_view lines ++ map plain.removed ts)
+      ++ map plain.added (texts_of (take (j + a - j) (drop j after)))) (part_is before us i r us_is)
+      ∙ ap (λ ts. (map line_view lines ++ gone) ++ map plain.added ts) (part_is after vs j a vs_is))
+      ∙ append_assoc (map line_view lines ++ gone) come more ∙ append_assoc (map line_view lines) gone (come ++ more)))
+      (all rest (subst (λ ls. Completes (texts_of ls) (texts_of (drop j after)) rest) us_is
+      (subst (λ ls. Completes (texts_of us) (texts_of ls) rest) vs_is
+      (change_step r a (texts_of us) (texts_of vs) more left apart other blocks))))

@@ -1,39 +1,13 @@
 -- The lines of two texts among those of a diff.
-use Rattle.std.proofs.Common.{◌≡◌, refl, ap, ◌∙◌, sym, subst, ℕ, zero, suc, ◌+◌, ◌<◌, true, List, [], ◌∷◌, ◌++◌, length, map, take, get_or, arith}
+use Rattle.std.proofs.Common.{◌≡◌, refl, ap, ◌∙◌, sym, subst, ℕ, zero, suc, ◌+◌, ◌<◌, ◌≤◌, true, false, List, [], ◌∷◌, ◌++◌, length, map, take, drop, get_or, take-add, arith}
 use Rattle.std.proofs.lemmas.Bool.{false≢true}
-use Rattle.std.proofs.lemmas.List.{map_push, map_more}
+use Rattle.std.proofs.lemmas.List.{map-append, map_more, take-map, take-take}
 use Rattle.std.specs.Int.{from_bool}
 use Rattle.wgsl_diff.specs.declared.line.Line as code
 use Rattle.wgsl_diff.specs.View.{line_view}
 use Rattle.wgsl_diff.specs.Diffs.{Line, kept, removed, added, is_kept, in_old, in_new, old_lines, new_lines, AllKept}
 
-pub old_lines-append : (xs ys : List Line) → old_lines (xs ++ ys) ≡ old_lines xs ++ old_lines ys
-old_lines-append [] ys = refl
-old_lines-append (kept text ∷ xs) ys = ap (λ rest. text ∷ rest) (old_lines-append xs ys)
-old_lines-append (removed text ∷ xs) ys = ap (λ rest. text ∷ rest) (old_lines-append xs ys)
-old_lines-append (added text ∷ xs) ys = old_lines-append xs ys
-
-pub new_lines-append : (xs ys : List Line) → new_lines (xs ++ ys) ≡ new_lines xs ++ new_lines ys
-new_lines-append [] ys = refl
-new_lines-append (kept text ∷ xs) ys = ap (λ rest. text ∷ rest) (new_lines-append xs ys)
-new_lines-append (removed text ∷ xs) ys = new_lines-append xs ys
-new_lines-append (added text ∷ xs) ys = ap (λ rest. text ∷ rest) (new_lines-append xs ys)
-
--- lines that both texts have are the same in both
-pub same_kept : (lines : List Line) → AllKept lines → new_lines lines ≡ old_lines lines
-same_kept [] all = refl
-same_kept (kept text ∷ lines) all = ap (λ rest. text ∷ rest) (same_kept lines all)
-same_kept (removed text ∷ lines) all = absurd all
-same_kept (added text ∷ lines) all = absurd all
-
--- and as many as they are
-pub length-kept : (lines : List Line) → AllKept lines → length (old_lines lines) ≡ length lines
-length-kept [] all = refl
-length-kept (kept text ∷ lines) all = ap suc (length-kept lines all)
-length-kept (removed text ∷ lines) all = absurd all
-length-kept (added text ∷ lines) all = absurd all
-
--- so is each front of them
+-- each front of lines that both texts have is such
 pub front_kept : (n : ℕ) (lines : List Line) → AllKept lines → AllKept (take n lines)
 front_kept zero lines all = tt
 front_kept (suc n) [] all = tt
@@ -54,14 +28,27 @@ new_step (kept text) lines = omega arith
 new_step (removed text) lines = omega arith
 new_step (added text) lines = omega arith
 
+-- lines that both texts have, and more of them
+pub all_kept-append : (lines more : List Line) → AllKept lines → AllKept more → AllKept (lines ++ more)
+all_kept-append [] more all others = others
+all_kept-append (kept text ∷ lines) more all others = all_kept-append lines more all others
+all_kept-append (removed text ∷ lines) more all others = absurd all
+all_kept-append (added text ∷ lines) more all others = absurd all
+
 -- and with one more that both texts have
 all_kept_push : (lines : List Line) (line : Line) → AllKept lines → is_kept line ≡ true → AllKept (lines ++ line ∷ [])
-all_kept_push [] (kept text) all one = tt
-all_kept_push [] (removed text) all one = absurd (false≢true one)
-all_kept_push [] (added text) all one = absurd (false≢true one)
-all_kept_push (kept text ∷ lines) line all one = all_kept_push lines line all one
-all_kept_push (removed text ∷ lines) line all one = absurd all
-all_kept_push (added text ∷ lines) line all one = absurd all
+all_kept_push lines (kept text) all one = all_kept-append lines (kept text ∷ []) all tt
+all_kept_push lines (removed text) all one = absurd (false≢true one)
+all_kept_push lines (added text) all one = absurd (false≢true one)
+
+-- both texts have the last one
+last_kept : (lines : List Line) (line : Line) → AllKept (lines ++ line ∷ []) → is_kept line ≡ true
+last_kept [] (kept text) all = refl
+last_kept [] (removed text) all = absurd all
+last_kept [] (added text) all = absurd all
+last_kept (kept text ∷ lines) line all = last_kept lines line all
+last_kept (removed text ∷ lines) line all = absurd all
+last_kept (added text ∷ lines) line all = absurd all
 
 -- so is a front with one line more
 pub front_more : (lines : List code.Line) (i : ℕ) (d : code.Line) → i < length lines
@@ -71,15 +58,27 @@ front_more lines i d within one all =
     subst AllKept (sym (map_more line_view lines i d within))
     (all_kept_push (map line_view (take i lines)) (line_view (get_or lines i d)) all one)
 
--- lines of the code, with one more at the end
-pub old_lines-push : (lines made : List code.Line) (line : code.Line) → made ≡ lines ++ line ∷ []
-    → old_lines (map line_view made) ≡ old_lines (map line_view lines) ++ old_lines (line_view line ∷ [])
-old_lines-push lines made line pushed =
-    ap (λ ls. old_lines (map line_view ls)) pushed ∙ ap old_lines (map_push line_view lines line)
-    ∙ old_lines-append (map line_view lines) (line_view line ∷ [])
+-- a front whose last line differs
+pub front_ends : (lines : List code.Line) (i : ℕ) (d : code.Line) → i < length lines
+    → is_kept (line_view (get_or lines i d)) ≡ false → ¬ (AllKept (map line_view (take (i + 1) lines)))
+front_ends lines i d within other = λ all.
+    false≢true (sym other ∙ last_kept (map line_view (take i lines)) (line_view (get_or lines i d))
+    (subst AllKept (map_more line_view lines i d within) all))
 
-pub new_lines-push : (lines made : List code.Line) (line : code.Line) → made ≡ lines ++ line ∷ []
-    → new_lines (map line_view made) ≡ new_lines (map line_view lines) ++ new_lines (line_view line ∷ [])
-new_lines-push lines made line pushed =
-    ap (λ ls. new_lines (map line_view ls)) pushed ∙ ap new_lines (map_push line_view lines line)
-    ∙ new_lines-append (map line_view lines) (line_view line ∷ [])
+-- a shorter front of lines that both texts have
+pub all_skipped : (lines : List code.Line) (n m : ℕ) → m ≤ n
+    → AllKept (map line_view (take n lines)) → AllKept (map line_view (take m lines))
+all_skipped lines n m fewer all =
+    subst AllKept (take-map line_view m (take n lines) ∙ ap (map line_view) (take-take m n lines fewer))
+    (front_kept m (map line_view (take n lines)) all)
+
+-- after some of them one of the next four differs
+pub one_differs : (lines : List code.Line) (n m : ℕ) → m ≤ n → n ≤ m + 3
+    → AllKept (map line_view (take n lines)) → ¬ (AllKept (map line_view (take (n + 1) lines)))
+    → ¬ (AllKept (map line_view (take 4 (drop m lines))))
+one_differs lines n m fewer near all most = λ four.
+    most (all_skipped lines (m + 4) (n + 1) (omega (arith, near))
+    (subst AllKept (sym (ap (map line_view) (take-add m 4 lines)
+    ∙ map-append line_view (take m lines) (take 4 (drop m lines))))
+    (all_kept-append (map line_view (take m lines)) (map line_view (take 4 (drop m lines)))
+    (all_skipped lines n m fewer all) four)))

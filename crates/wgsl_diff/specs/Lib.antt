@@ -1,4 +1,5 @@
 pub mod Lines
 pub mod Diffs
+pub mod Matching
 pub mod Printing
 pub mod View

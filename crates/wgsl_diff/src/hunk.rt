@@ -1,8 +1,8 @@
 //! The lines of a diff in groups: those that differ, with up to three on each side.
 
-ghost use Rattle.std.specs.Prelude.{◌≡◌, ◌≤◌, ◌<◌, ◌++◌, length, map, take, IfOk};
+ghost use Rattle.std.specs.Prelude.{◌≡◌, ◌≤◌, ◌<◌, ◌+◌, length, map, take, IfOk};
 ghost use Rattle.std.specs.List.{All};
-ghost use Rattle.wgsl_diff.specs.Diffs.{Turns, AllKept, old_lines, new_lines};
+ghost use Rattle.wgsl_diff.specs.Diffs.{AllKept, IsShort, AreHunks};
 ghost use Rattle.wgsl_diff.specs.View.{line_view, hunk_view, IsSmall};
 
 use crate::line::{Line, new_count, old_count};
@@ -23,8 +23,8 @@ pub struct Hunk<'s, 'a> {
 
 /// Returns the hunks of a diff of which these are all lines.
 pub fn hunks<'s, 'a>(alloc: Global, lines: &'s [Line<'a>]) -> Result<Vec<Hunk<'s, 'a>>, AllocError>
-    ensures turns { IfOk result (λ hunks. Turns 0 0 (map hunk_view hunks.items)
-        (old_lines (map line_view lines.now)) (new_lines (map line_view lines.now))) }
+    ensures hunks { IfOk result (λ hunks. AreHunks 0 0 (map hunk_view hunks.items)
+        (map line_view lines.now)) }
     ensures small { IfOk result (λ hunks. All IsSmall hunks.items) }
 {
     let mut hunks = Vec::new(alloc);
@@ -59,6 +59,8 @@ pub fn hunks<'s, 'a>(alloc: Global, lines: &'s [Line<'a>]) -> Result<Vec<Hunk<'s
 fn kept_count(lines: &[Line<'_>]) -> usize
     ensures within { result ≤ length lines.now }
     ensures kept { AllKept (map line_view (take result lines.now)) }
+    ensures most { result < length lines.now
+        → ¬ (AllKept (map line_view (take (result + 1) lines.now))) }
 {
     let mut count = 0;
     for line in lines {
@@ -73,9 +75,10 @@ fn kept_count(lines: &[Line<'_>]) -> usize
 /// How many lines at the front are shown together: they end before more than twice `CONTEXT` lines
 /// that both texts have.
 fn hunk_len(lines: &[Line<'_>]) -> usize
-    requires { 0 < length lines.now }
+    requires { ¬ (AllKept (map line_view (take 4 lines.now))) }
     ensures within { result ≤ length lines.now }
     ensures some { 0 < result }
+    ensures short { IsShort 3 (map line_view (take result lines.now)) }
 {
     let mut end = 0;
     for (at, line) in lines.iter().enumerate() {

@@ -1,8 +1,9 @@
 //! All lines of two texts as the lines of a diff.
 
-ghost use Rattle.std.specs.Prelude.{◌≡◌, ◌+◌, ◌≤◌, ◌<◌, ◌++◌, length, map};
+ghost use Rattle.std.specs.Prelude.{◌≡◌, ◌⊎◌, ◌+◌, ◌≤◌, ◌<◌, ◌++◌, length, map, take, drop};
 ghost use Rattle.std.specs.Prelude.{IfOk, OnOk};
-ghost use Rattle.wgsl_diff.specs.Diffs.{old_lines, new_lines};
+ghost use Rattle.wgsl_diff.specs.Diffs as plain;
+ghost use Rattle.wgsl_diff.specs.Matching.{GoOn, IsBlock};
 ghost use Rattle.wgsl_diff.specs.View.{line_view, texts_of};
 
 use crate::line::Line;
@@ -21,10 +22,8 @@ pub fn script<'a>(
     before: &[&'a [u8]],
     after: &[&'a [u8]],
 ) -> Result<Vec<Line<'a>>, AllocError>
-    ensures old_lines { IfOk result (λ lines.
-        old_lines (map line_view lines.items) ≡ texts_of before.now) }
-    ensures new_lines { IfOk result (λ lines.
-        new_lines (map line_view lines.items) ≡ texts_of after.now) }
+    ensures { IfOk result (λ lines. plain.IsScript (texts_of before.now) (texts_of after.now)
+        (map line_view lines.items)) }
 {
     let mut lines = Vec::new(alloc);
     let mut i = 0;
@@ -47,10 +46,15 @@ pub fn script<'a>(
 
 /// How many lines of each text come before the next one that both have.
 fn change_at(before: &[&[u8]], after: &[&[u8]]) -> (usize, usize)
-    requires { 0 < length before.now + length after.now }
+    requires some { 0 < length before.now + length after.now }
+    requires other { ¬ (GoOn (texts_of before.now) (texts_of after.now)) }
     ensures removed { result.0 ≤ length before.now }
     ensures added { result.1 ≤ length after.now }
     ensures some { 0 < result.0 + result.1 }
+    ensures apart { plain.AreApart (take result.0 (texts_of before.now))
+        (take result.1 (texts_of after.now)) }
+    ensures ends { GoOn (drop result.0 (texts_of before.now)) (drop result.1 (texts_of after.now))
+        ⊎ (IsBlock result.0 (length before.now) × IsBlock result.1 (length after.now)) }
 {
     for distance in 1..=REACH {
         for removed in 0..=distance {
@@ -64,10 +68,8 @@ fn change_at(before: &[&[u8]], after: &[&[u8]]) -> (usize, usize)
 }
 
 fn push_removed<'a>(lines: &mut Vec<Line<'a>>, texts: &[&'a [u8]]) -> Result<(), AllocError>
-    ensures old_lines { OnOk result (old_lines (map line_view lines.new.items)
-        ≡ old_lines (map line_view lines.old.items) ++ texts_of texts.now) }
-    ensures new_lines { OnOk result (new_lines (map line_view lines.new.items)
-        ≡ new_lines (map line_view lines.old.items)) }
+    ensures { OnOk result (map line_view lines.new.items
+        ≡ map line_view lines.old.items ++ map plain.removed (texts_of texts.now)) }
 {
     for text in texts {
         lines.push(Line::Removed(text))?;
@@ -76,10 +78,8 @@ fn push_removed<'a>(lines: &mut Vec<Line<'a>>, texts: &[&'a [u8]]) -> Result<(),
 }
 
 fn push_added<'a>(lines: &mut Vec<Line<'a>>, texts: &[&'a [u8]]) -> Result<(), AllocError>
-    ensures old_lines { OnOk result (old_lines (map line_view lines.new.items)
-        ≡ old_lines (map line_view lines.old.items)) }
-    ensures new_lines { OnOk result (new_lines (map line_view lines.new.items)
-        ≡ new_lines (map line_view lines.old.items) ++ texts_of texts.now) }
+    ensures { OnOk result (map line_view lines.new.items
+        ≡ map line_view lines.old.items ++ map plain.added (texts_of texts.now)) }
 {
     for text in texts {
         lines.push(Line::Added(text))?;

@@ -3,7 +3,7 @@ use Rattle.std.specs.Prelude.{◌≡◌, ℕ, Bool, true, false, List, [], ◌++
 use Rattle.std.specs.Borrow.{Bor}
 use Rattle.wgsl_command.specs.declared.command.Mode.{Mode}
 use Rattle.wgsl_command.specs.declared.command.Mode.TheVariants.{Write, Check, Diff}
-use Rattle.wgsl_diff.specs.Diffs.{Hunk, Turns}
+use Rattle.wgsl_diff.specs.Diffs.{Line, Hunk, IsScript, AreHunks}
 use Rattle.wgsl_diff.specs.Lines.{lines_of}
 use Rattle.wgsl_diff.specs.Printing.{print_diff}
 use Rattle.wgsl_files.specs.declared.file.Mode as declared_mode
@@ -72,11 +72,12 @@ pair_copied (Some pair) = Some (pair.0.now, pair.1.now)
 abbrev pub line_of : List ℕ → List ℕ
 line_of name = name ++ codes "\n"
 
--- the text is a unified diff of the file of this name, whose hunks make the lines of the one text
--- of those of the other
+-- the text is a unified diff of the file of this name: the hunks of all lines of both texts
 pub record IsDiff (name before after text : List ℕ) : Type 0 where
+  pub lines : List Line
+  pub script : IsScript (lines_of before) (lines_of after) lines
   pub hunks : List Hunk
-  pub turns : Turns 0 0 hunks (lines_of before) (lines_of after)
+  pub grouped : AreHunks 0 0 hunks lines
   pub printed : text ≡ print_diff name hunks
 
 -- what reports a change: the name of the file, or a diff

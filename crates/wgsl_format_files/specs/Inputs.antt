@@ -1,5 +1,5 @@
 -- What is formatted for the paths that are named.
-use Rattle.std.specs.Prelude.{◌≡◌, ◌⊎◌, ℕ, List, [], ◌∷◌, ◌++◌, map, string_bytes}
+use Rattle.std.specs.Prelude.{◌≡◌, ℕ, List, [], ◌∷◌, ◌++◌, map, string_bytes}
 use Rattle.wgsl_command.specs.Commands.{Source, standard_input, path}
 use Rattle.wgsl_files.specs.Files.{Files}
 use Rattle.wgsl_files.specs.Folders.{IsListing}
@@ -15,10 +15,10 @@ abbrev pub name_in : List ℕ → Source → List ℕ
 name_in stdin_name standard_input = stdin_name
 name_in stdin_name (path text) = text
 
--- these follow what there was: the files that are listed for a named path, or that path itself
+-- these follow what there was: the files that are listed for a named path
 abbrev pub AreFilesOf : Files → List ℕ → List Source → List Source → Type 0
 AreFilesOf files named old new = (paths : List (List ℕ))
-    × (IsListing files named paths ⊎ (paths ≡ named ∷ [])) × (new ≡ old ++ map path paths)
+    × IsListing files named paths × (new ≡ old ++ map path paths)
 
 -- the next source of the arguments is this, and these follow what there was
 abbrev pub IsInputOf : Files → Source → List Source → List Source → Type 0

@@ -1,7 +1,7 @@
 use Rattle.std.proofs.Common.{◌≤◌, ◌-◌, ◌++◌, List, length, map, drop}
 use Rattle.std.specs.List.{All}
 use Rattle.wgsl_diff.specs.Diffs as plain
-use Rattle.wgsl_diff.specs.Diffs.{Turns, old_lines, new_lines}
+use Rattle.wgsl_diff.specs.Diffs.{AreHunks}
 use Rattle.wgsl_diff.specs.View.{line_view, hunk_view, IsSmall}
 use Rattle.wgsl_diff.proofs.hunk.hunks.Given as goal
 
@@ -12,11 +12,8 @@ invariant-loop-at l = record {
   old_within : l.old_start ≤ l.at;
   new_within : l.new_start ≤ l.at;
   small : All IsSmall l.hunks.items;
-  turns : (more : List plain.Hunk)
-      → Turns l.old_start l.new_start more (old_lines (map line_view (drop l.at l.lines)))
-      (new_lines (map line_view (drop l.at l.lines)))
-      → Turns 0 0 (map hunk_view l.hunks.items ++ more) (old_lines (map line_view l.lines))
-      (new_lines (map line_view l.lines));
+  hunks : (more : List plain.Hunk) → AreHunks l.old_start l.new_start more (map line_view (drop l.at l.lines))
+      → AreHunks 0 0 (map hunk_view l.hunks.items ++ more) (map line_view l.lines);
 }
 
 abbrev pub decreases-loop-at : goal.decreases-loop-at

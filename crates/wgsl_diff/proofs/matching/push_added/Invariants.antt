@@ -1,12 +1,8 @@
 use Rattle.std.proofs.Common.{◌≡◌, ◌++◌, map, take}
-use Rattle.wgsl_diff.specs.Diffs.{old_lines, new_lines}
+use Rattle.wgsl_diff.specs.Diffs.{added}
 use Rattle.wgsl_diff.specs.View.{line_view, texts_of}
 use Rattle.wgsl_diff.proofs.matching.push_added.Given as goal
 
--- the new text has the lines so far, and the old one none of them
 abbrev pub invariant-loop-text : goal.invariant-loop-text
-invariant-loop-text l = record {
-  of_old : old_lines (map line_view l.lines.items) ≡ old_lines (map line_view l.initial.lines.items);
-  of_new : new_lines (map line_view l.lines.items)
-      ≡ new_lines (map line_view l.initial.lines.items) ++ texts_of (take l.text-index l.texts);
-}
+invariant-loop-text l = map line_view l.lines.items
+    ≡ map line_view l.initial.lines.items ++ map added (texts_of (take l.text-index l.texts))
