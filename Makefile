@@ -6,12 +6,13 @@ man = $(DESTDIR)$(PREFIX)/share/man/man1
 headers = $(DESTDIR)$(PREFIX)/include
 libraries = $(DESTDIR)$(PREFIX)/lib
 
-.PHONY: help demo build lib tables test prove mutants programs install uninstall dist clean
+.PHONY: help demo build lib site tables test prove mutants programs browsers install uninstall dist clean
 
 help:
 	@echo "make demo       formats a shader with wgsltidy, and prints it with wgslfmt, without proofs"
 	@echo "make build      proves the three programs and what they depend on, and puts them into build/"
 	@echo "make lib        proves the library for C and Rust, build/libwgsl.a"
+	@echo "make site       puts the page of web/ into build/site, once \`make web\` has made build/web"
 	@echo "make install    installs the programs, their man pages, and the library if it is built, below"
 	@echo "                PREFIX, which is $(PREFIX)"
 	@echo "make uninstall  removes them"
@@ -19,6 +20,7 @@ help:
 	@echo "make tables     writes again what tools write from the definitions"
 	@echo "make test       runs all tests, over programs that are not proved, and checks the documents"
 	@echo "make prove      proves everything, and tries what is built; make mutants tries all wrong bodies"
+	@echo "make browsers   tries build/site and build/web in Chromium and Firefox"
 	@echo "make clean      removes build/ and what rt keeps in crates/*/out"
 
 demo:
@@ -34,6 +36,9 @@ build:
 
 lib:
 	@tools/build lib
+
+site:
+	@tools/site
 
 tables:
 	@tools/make_tables
@@ -88,6 +93,10 @@ programs:
 	@tools/library_tests || { echo "Failed: tools/library_tests, as above."; exit 1; }
 	@tools/build || { echo "Failed: tools/build, as above."; exit 1; }
 	@tools/dist_test || { echo "Failed: tools/dist_test, as above."; exit 1; }
+
+# The page and the rows in Chromium and Firefox, which neither `make test` nor `make prove` needs.
+browsers:
+	@tools/browsers || { echo "Failed: tools/browsers, as the lines above say."; exit 1; }
 
 install:
 	@for program in wgsltidy wgslfmt wgslmin; do \

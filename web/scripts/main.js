@@ -41,11 +41,22 @@ const updates = new Updates(new Engine(), {
 
 function showVerdict(text, fault) {
   if (text === source.text) source.showFault(fault);
-  const verdict = at('verdict');
-  verdict.classList.toggle('is-fault', fault !== null);
-  verdict.textContent = fault ? `${fault.line}:${fault.column}: ${fault.message}` : 'A module of WGSL';
-  at('to-fault').hidden = fault === null;
+  at('verdict').classList.toggle('is-fault', fault !== null);
+  const place = fault?.place;
+  const told = [place && `${place.line}:${place.column}: `, fault?.message ?? 'A module of WGSL'];
+  at('verdict').replaceChildren(...withCode(told.filter(Boolean).join('')));
+  at('to-fault').hidden = !place;
   at('source-size').textContent = bytes(new Blob([text]).size);
+}
+
+/** The parts of a message; those in backquotes are code. */
+function withCode(message) {
+  return message.split('`').map((part, index) => {
+    if (index % 2 === 0) return part;
+    const code = document.createElement('code');
+    code.textContent = part;
+    return code;
+  });
 }
 
 /** Shows what a link has, or the first example where it has no text. */

@@ -29,19 +29,15 @@ export class Source {
     this.#editor.setValue(text);
   }
 
-  get hasFault() {
-    return this.#fault !== null;
-  }
-
   /** Underlines a fault, or none. */
   showFault(fault) {
     this.#fault?.mark.clear();
     if (this.#faultLine !== null) this.#editor.removeLineClass(this.#faultLine, 'wrap', 'fault-line');
     this.#fault = null;
     this.#faultLine = null;
-    if (fault === null) return;
-    const start = firstShown(this.text, fault.start);
-    const mark = this.#mark(start, Math.max(fault.end, start + 1), {
+    if (!fault?.place) return;
+    const start = firstShown(this.text, fault.place.start);
+    const mark = this.#mark(start, Math.max(fault.place.end, start + 1), {
       className: 'fault', title: fault.message,
     });
     this.#fault = { mark, start };

@@ -14,6 +14,7 @@ class Shown {
     this.figures = panel.querySelector('.figures');
     this.copy = panel.querySelector('.copy');
     this.copy.disabled = true;
+    panel.classList.add('is-empty');
   }
 
   /** Shows what the worker returned, or that there is a fault and this is an older text. */
@@ -25,6 +26,7 @@ class Shown {
     }
     this.text = found.text;
     this.copy.disabled = false;
+    this.panel.classList.remove('is-empty');
     this.write(found);
     this.figures.textContent = this.figure(found);
   }
@@ -120,9 +122,10 @@ export class Minified extends Shown {
   }
 
   #showNames(names) {
-    this.#names.hidden = names.length === 0;
-    this.#names.querySelector('summary').textContent = `${count(names.length)} new names`;
-    const entries = names.map(([old, given]) => {
+    const pairs = Object.entries(names);
+    this.#names.hidden = pairs.length === 0;
+    this.#names.querySelector('summary').textContent = `${count(pairs.length)} new names`;
+    const entries = pairs.map(([old, given]) => {
       const entry = document.createElement('div');
       entry.append(element('dt', old), element('dd', given));
       return entry;

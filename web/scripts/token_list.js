@@ -1,6 +1,6 @@
 // The tokens of a source, as rows with places, kinds and texts.
 
-import { tokens, tokensWithComments } from '../module/centrelilac.js';
+import { tokens } from '../module/index.js';
 
 /** A text in a row is cut after so many characters. */
 const LONGEST = 200;
@@ -12,7 +12,7 @@ export class TokenList {
 
   constructor(source, comments) {
     this.#source = source;
-    this.#tokens = comments ? tokensWithComments(source) : tokens(source);
+    this.#tokens = tokens(source, { comments });
     for (let at = source.indexOf('\n'); at >= 0; at = source.indexOf('\n', at + 1)) {
       this.#lines.push(at + 1);
     }

@@ -69,7 +69,7 @@ export class Tree {
     row.ariaSelected = 'true';
     row.focus();
     const { span } = this.#facts.get(row);
-    if (span) this.#source.choose(...span);
+    if (span) this.#source.choose(span.start, span.end);
     else this.#source.clearChosen();
   }
 

@@ -1,9 +1,12 @@
 // The worker: calls the library, so that typing never waits for it. It keeps the source, the tree
 // and the tokens, of which the page asks for what it shows.
 
-import { init, check, format, minify, parse, tidy, WgslError } from '../module/centrelilac.js';
+import { init, check, format, minify, parse, tidy, WgslError } from '../module/index.js';
 import { childrenOf, rowOf } from './tree_rows.js';
 import { TokenList } from './token_list.js';
+
+/** The kinds of errors that are nowhere in the text. */
+const WITHOUT_PLACE = new Set(['OutOfMemory', 'TooDeep']);
 
 const encoder = new TextEncoder();
 const kept = { source: '', tree: null, tokens: null };
@@ -67,7 +70,8 @@ function faultOf(call) {
   } catch (error) {
     if (!(error instanceof WgslError)) throw error;
     const { kind, message, start, end, line, column } = error;
-    return { kind, message, start, end, line, column };
+    const place = WITHOUT_PLACE.has(kind) ? null : { start, end, line, column };
+    return { message, place };
   }
 }
 
