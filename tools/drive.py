@@ -52,7 +52,7 @@ def process(words, folder, pattern):
     log = Path(folder) / "log"
     with log.open("wb") as written:
         started = subprocess.Popen(words, stdout=written, stderr=subprocess.STDOUT,
-                                   stdin=subprocess.DEVNULL, start_new_session=True)
+                                   stdin=subprocess.DEVNULL, preexec_fn=os.setpgrp)
     try:
         yield wait_for(pattern, started, log)
     finally:
