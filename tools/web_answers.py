@@ -1,0 +1,93 @@
+"""What the package for JavaScript has to return of a text, by the calls of the native library: one
+JSON value a text, which bindings/web/test/compare.js compares with what it returns."""
+import json
+import struct
+
+from native import DONE, REFUSED
+
+# the kinds of faults, as bindings/web/error.js names them
+KINDS = {1: "InvalidToken", 2: "ReservedWord", 3: "UnexpectedToken", 4: "UnexpectedEnd",
+         6: "DiagnosticSeverity", 7: "Attribute", 8: "VarTemplate"}
+# the layouts that texts are formatted by, and the names that get new ones
+LAYOUTS = [(100, 4, 0, 0), (40, 2, 0, 1), (0, 4, 1, 2)]
+NAMES = {"none": 0, "locals": 1, "all": 2}
+TOKEN, PLACE = struct.Struct("<3Q"), struct.Struct("<2Q")
+
+
+def units(bytes_before):
+    """How many UTF-16 units the text of some bytes has."""
+    return len(bytes_before.decode().encode("utf-16-le")) // 2
+
+
+class Places:
+    """The places of a text in UTF-16 units, by byte offsets."""
+
+    def __init__(self, text):
+        self.text = text
+        self.is_ascii = text.isascii()
+        self.found = {}
+
+    def unit(self, offset):
+        if self.is_ascii:
+            return offset
+        if offset not in self.found:
+            past = max(0, offset - len(self.text))
+            self.found[offset] = units(self.text[:offset]) + past
+        return self.found[offset]
+
+    def line_and_column(self, offset):
+        before = self.text[:offset].decode().split("\n")
+        return len(before), len(before[-1]) + 1
+
+
+def fault(places, said, texts=None):
+    """An error of the package: what a call says of a text that it refuses."""
+    message, *expected = (texts or said.written).decode().split("\0")
+    start, end = said.answer.start, said.answer.end
+    line, column = places.line_and_column(start)
+    return {"kind": KINDS[said.answer.kind], "message": message,
+            "expected": expected[:said.answer.expected], "start": places.unit(start),
+            "end": places.unit(end), "line": line, "column": column}
+
+
+def outcome(places, said, value):
+    """What a call returns or throws."""
+    if said.status == REFUSED:
+        return {"error": fault(places, said)}
+    assert said.status == DONE, said.status
+    return {"value": value(said)}
+
+
+def text(said):
+    return said.written.decode()
+
+
+def minified(said):
+    front, back = said.written[:said.answer.start], said.written[said.answer.start:]
+    return {"text": front.decode(), "names": list(json.loads(back).items())}
+
+
+def tokens(library, name, source, places):
+    """The tokens before the first fault, and that."""
+    said = library.call(name, source, TOKEN.size)
+    found = [[kind, places.unit(start), places.unit(end)]
+             for kind, start, end in TOKEN.iter_unpack(said.written)]
+    wrong = fault(places, said, b"invalid token") if said.status == REFUSED else None
+    return {"tokens": found, "fault": wrong}
+
+
+def answers(library, source):
+    """What each call returns of a text in UTF-8."""
+    places = Places(source)
+    lists = library.call("lists", source, PLACE.size).written
+    return {
+        "text": source.decode(),
+        "check": outcome(places, library.call("check", source), lambda said: None),
+        "format": outcome(places, library.call("format", source), text),
+        "tidy": [outcome(places, library.tidy(source, it), text) for it in LAYOUTS],
+        "minify": [outcome(places, library.minify(source, it), minified) for it in NAMES.values()],
+        "tokens": tokens(library, "tokens", source, places),
+        "comments": tokens(library, "tokens_with_comments", source, places),
+        "lists": [[places.unit(it) for it in pair] for pair in PLACE.iter_unpack(lists)],
+        "nesting": library.nesting(source),
+    }
