@@ -14,11 +14,6 @@ NAMES = {"none": 0, "locals": 1, "all": 2}
 TOKEN, PLACE = struct.Struct("<3Q"), struct.Struct("<2Q")
 
 
-def units(bytes_before):
-    """How many UTF-16 units the text of some bytes has."""
-    return len(bytes_before.decode().encode("utf-16-le")) // 2
-
-
 class Places:
     """The places of a text in UTF-16 units, by byte offsets."""
 
@@ -28,11 +23,15 @@ class Places:
         self.found = {}
 
     def unit(self, offset):
+        """The place of an offset; of one inside a character, the end of that."""
         if self.is_ascii:
             return offset
         if offset not in self.found:
-            past = max(0, offset - len(self.text))
-            self.found[offset] = units(self.text[:offset]) + past
+            end = offset
+            while end < len(self.text) and self.text[end] & 0xc0 == 0x80:
+                end += 1
+            before, past = self.text[:end].decode(), max(0, end - len(self.text))
+            self.found[offset] = len(before.encode("utf-16-le")) // 2 + past
         return self.found[offset]
 
     def line_and_column(self, offset):
