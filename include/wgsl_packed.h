@@ -1,6 +1,6 @@
 /* Reads packed forms: the bytes that wgsl_packed_tree of wgsl.h writes, which docs/TREE.md
- * describes. Nothing here takes memory or calls the library, and of each form only its own bytes are
- * read, whatever they are.
+ * describes. Nothing here takes memory or calls the library, and no byte outside of a form is read,
+ * whatever bytes it has.
  *
  *     struct wgsl_node unit = {form, size}, list;
  *     struct wgsl_part part;

@@ -1,6 +1,6 @@
-/* Calls the functions of wgsl_packed.h, on forms that are made by hand and on those of its input, each
-   after how many bytes it has (8 bytes, the lowest first), also cut off and with other bytes. Exits
-   with the line of the first check that fails, or 0. */
+/* Calls the functions of wgsl_packed.h, on forms that are made by hand and on those of its input,
+   each after how many bytes it has (8 bytes, the lowest first), also cut off and with other bytes.
+   Exits with the line of the first check that fails, or 0. */
 #include <stdio.h>
 #include <stdlib.h>
 #include <string.h>
@@ -24,12 +24,14 @@ static int is_span(struct wgsl_part part, uint64_t start, uint64_t end) {
 }
 
 static int is_text(struct wgsl_part part, const char *text) {
-    return part.place == '#' && part.size == strlen(text) && memcmp(part.text, text, part.size) == 0;
+    return part.place == '#' && part.size == strlen(text)
+        && memcmp(part.text, text, part.size) == 0;
 }
 
 /* The parts of `a.b` are what docs/TREE.md says. */
 static int check_parts(void) {
-    static const char form[] = "\16" NAME("a") "\17" NUMBER("\0") NUMBER("\1") TEXT("\1", "b") NOTHING;
+    static const char form[] =
+        "\16" NAME("a") "\17" NUMBER("\0") NUMBER("\1") TEXT("\1", "b") NOTHING;
     struct wgsl_node chain = node_of(form, sizeof form - 1);
     struct wgsl_parts parts = wgsl_parts_of(chain);
     struct wgsl_part part;
@@ -43,7 +45,8 @@ static int check_parts(void) {
     CHECK(wgsl_next_part(&parts, &part) == WGSL_IS_END && part.place == ' ');
     CHECK(wgsl_part_of(chain, 1, &part) == WGSL_IS_THERE);
     parts = wgsl_parts_of(part.node);
-    CHECK(wgsl_next_part(&parts, &part) == WGSL_IS_THERE && part.place == '%' && is_span(part, 0, 1));
+    CHECK(wgsl_next_part(&parts, &part) == WGSL_IS_THERE);
+    CHECK(part.place == '%' && is_span(part, 0, 1));
     CHECK(wgsl_next_part(&parts, &part) == WGSL_IS_THERE && is_text(part, "b"));
     CHECK(wgsl_next_part(&parts, &part) == WGSL_IS_THERE);
     CHECK(wgsl_rule_of(part.node) == WGSL_RULE_NOTHING);
@@ -62,8 +65,10 @@ static int check_items(void) {
     struct wgsl_node list;
     CHECK(wgsl_part_of(node_of(block, sizeof block - 1), 1, &part) == WGSL_IS_THERE);
     list = part.node;
-    CHECK(wgsl_next_item(&list, &item) == WGSL_IS_THERE && item.place == ' ' && is_span(item, 1, 2));
-    CHECK(wgsl_next_item(&list, &item) == WGSL_IS_THERE && item.place == '$' && is_span(item, 3, 9));
+    CHECK(wgsl_next_item(&list, &item) == WGSL_IS_THERE);
+    CHECK(item.place == ' ' && is_span(item, 1, 2));
+    CHECK(wgsl_next_item(&list, &item) == WGSL_IS_THERE);
+    CHECK(item.place == '$' && is_span(item, 3, 9));
     CHECK(wgsl_rule_of(item.node) == WGSL_RULE_ENDED && item.node.size == 3);
     CHECK(wgsl_next_item(&list, &item) == WGSL_IS_END && item.place == ' ');
     CHECK(wgsl_rule_of(list) == WGSL_RULE_BLOCK_END);
@@ -82,7 +87,8 @@ static int check_items(void) {
 
 /* What may be left out. */
 static int check_options(void) {
-    static const char value[] = "\65" NUMBER("\4") NUMBER("\5") NAME("a"), mode[] = "\42" TEXT("\4", "read");
+    static const char value[] = "\65" NUMBER("\4") NUMBER("\5") NAME("a");
+    static const char mode[] = "\42" TEXT("\4", "read");
     struct wgsl_part part;
     CHECK(wgsl_option_of(node_of(value, sizeof value - 1), &part) == WGSL_IS_THERE);
     CHECK(part.place == '$' && is_span(part, 4, 5) && wgsl_rule_of(part.node) == WGSL_RULE_NAME);
@@ -134,7 +140,7 @@ static int check_forms(void) {
         size_t size = printed_forms[at].size;
         CHECK(walk(node_of(printed_forms[at].form, size)) == size);
     }
-    /* the second has another form after it, the last a level less than none: only printing sees it */
+    /* one has another form after it, and only printing sees that the last has a level too few */
     for (at = 0; at < sizeof refused_forms / sizeof *refused_forms - 1; at++) {
         size_t size = refused_forms[at].size;
         CHECK(walk(node_of(refused_forms[at].form, size)) == (refused_forms[at].form[0] == '\71'));

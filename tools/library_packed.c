@@ -1,7 +1,7 @@
-/* Writes the packed form and the JSON of each text of its input. Before a text are the number of its
-   kind and how many bytes it has; for each there is the status and, if that is WGSL_DONE, the form
-   and the JSON, each after how many bytes it has. A number has 8 bytes, the lowest first. Exits with
-   the line of the first check that fails, or 0. */
+/* Writes the packed form and the JSON of each text of its input. Before a text are the number of
+   its kind and how many bytes it has; for each there is the status and, if that is WGSL_DONE, the
+   form and the JSON, each after how many bytes it has. A number has 8 bytes, the lowest first.
+   Exits with the line of the first check that fails, or 0. */
 #include <stdio.h>
 
 #include "library_check.h"

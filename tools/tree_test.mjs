@@ -7,15 +7,17 @@ import { packed, treeOf } from '../bindings/web/tree.js';
 const LINKS = 100_000;
 const CHANGES = 20;
 
-/** Returns the UTF-16 offset of each byte offset of a text, also of its end. */
+/** Returns the UTF-16 offset of each byte offset at which a character of a text starts or ends. */
 function offsetsOf(text) {
-    const offsets = [];
+    const offsets = new Uint32Array(Buffer.byteLength(text) + 1);
+    let byte = 0;
+    let unit = 0;
     for (const character of text) {
-        const at = offsets.length === 0 ? 0 : offsets.at(-1) + 1;
-        const size = Buffer.byteLength(character);
-        for (let byte = 0; byte < size; byte += 1) offsets.push(at + (size === 4 && byte > 1 ? 1 : 0));
+        byte += Buffer.byteLength(character);
+        unit += character.length;
+        offsets[byte] = unit;
     }
-    return [...offsets, text.length];
+    return offsets;
 }
 
 /** Returns numbers below others, from a seed. */
@@ -39,7 +41,7 @@ function checkOther(bytes, kind) {
     assert.deepStrictEqual(treeOf(packed(tree), undefined, kind), tree);
 }
 
-/** Checks the form of a tree: it is written again, and nothing is the form of a part of its bytes. */
+/** Checks the form of a tree: it is written again, and other bytes are refused or are a form. */
 function checkForm(form, kind) {
     assert.deepStrictEqual(Buffer.from(packed(treeOf(form, undefined, kind))), form);
     const step = Math.ceil(form.length / CHANGES);
@@ -103,11 +105,11 @@ function checkMade() {
     const name = { type: 'TypeExpression', ident: 'é', template_args: null };
     const negation = { type: 'UnaryExpression', operator: '-', operand: name };
     const twice = { type: 'UnaryExpression', operator: '-', operand: negation };
-    const span = Buffer.alloc(16);
-    const text = (size, of) => Buffer.concat([Buffer.from([size, 0, 0, 0, 0, 0, 0, 0]), Buffer.from(of)]);
-    const minus = text(1, '-');
-    const wanted = [[10], minus, span, [9], minus, span, [12], text(2, 'é')];
-    assert.deepStrictEqual(Buffer.from(packed(twice)), Buffer.concat(wanted.map((it) => Buffer.from(it))));
+    const span = [...Buffer.alloc(16)];
+    const text = (size, of) => [size, 0, 0, 0, 0, 0, 0, 0, ...Buffer.from(of)];
+    const outer = [10, ...text(1, '-'), ...span];
+    const inner = [9, ...text(1, '-'), ...span, 12, ...text(2, 'é')];
+    assert.deepStrictEqual([...packed(twice)], [...outer, ...inner]);
 }
 
 checkLong();

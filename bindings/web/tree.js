@@ -1,108 +1,12 @@
-// Trees as plain objects, read from packed forms and written as these by the data in packed.js alone,
-// which docs/TREE.md describes.
+// Trees as plain objects, read from packed forms and written as these by the data in packed.js
+// alone, which docs/TREE.md describes.
 
+import { notPacked, Reader, Writer } from './bytes.js';
 import data from './packed.js';
 
 const numbers = new Map(data.rules.map((rule, number) => [rule.name, number]));
 const sorts = new Map();
 const NOTHING = numbers.get('nothing');
-const HIGH = 2 ** 32;
-
-/** Returns the error of bytes that are not a packed form. */
-function notPacked(what) {
-    return new RangeError(`not a packed form: ${what}`);
-}
-
-/** A packed form of which a front is read. */
-class Reader {
-    constructor(bytes, offsets) {
-        this.bytes = bytes;
-        this.view = new DataView(bytes.buffer, bytes.byteOffset, bytes.byteLength);
-        this.offsets = offsets;
-        this.decoder = new TextDecoder('utf-8', { fatal: true, ignoreBOM: true });
-        this.at = 0;
-    }
-
-    take(count) {
-        const at = this.at;
-        if (count > this.bytes.length - at) throw notPacked('it is cut off');
-        this.at += count;
-        return at;
-    }
-
-    rule() {
-        return this.bytes[this.take(1)];
-    }
-
-    number() {
-        const at = this.take(8);
-        return this.view.getUint32(at, true) + HIGH * this.view.getUint32(at + 4, true);
-    }
-
-    text() {
-        const size = this.number();
-        const at = this.take(size);
-        try {
-            return this.decoder.decode(this.bytes.subarray(at, at + size));
-        } catch {
-            throw notPacked('a text is not UTF-8');
-        }
-    }
-
-    place() {
-        const place = this.number();
-        return this.offsets ? this.offsets[place] : place;
-    }
-
-    span() {
-        return { start: this.place(), end: this.place() };
-    }
-}
-
-/** A packed form that is being written. */
-class Writer {
-    constructor() {
-        this.bytes = new Uint8Array(256);
-        this.size = 0;
-        this.encoder = new TextEncoder();
-    }
-
-    /** Makes room for so many bytes, and returns where they begin. */
-    make(count) {
-        const at = this.size;
-        this.size += count;
-        if (this.size > this.bytes.length) {
-            const larger = new Uint8Array(2 * this.size);
-            larger.set(this.bytes);
-            this.bytes = larger;
-        }
-        return at;
-    }
-
-    rule(number) {
-        const at = this.make(1);
-        this.bytes[at] = number;
-    }
-
-    number(number) {
-        const at = this.make(8);
-        const view = new DataView(this.bytes.buffer);
-        view.setUint32(at, number % HIGH, true);
-        view.setUint32(at + 4, Math.floor(number / HIGH), true);
-    }
-
-    text(text) {
-        const bytes = this.encoder.encode(text);
-        this.number(bytes.length);
-        const at = this.make(bytes.length);
-        this.bytes.set(bytes, at);
-    }
-
-    span(span) {
-        this.number(span?.start ?? 0);
-        this.number(span?.end ?? 0);
-    }
-}
 
 /** A text. */
 class Text {
@@ -224,7 +128,8 @@ class Form {
 
     /** Writes what fills the places. */
     write(to, node) {
-        const named = this.type === undefined ? { ...node, type: this.words.get(node.type) } : node;
+        const type = this.words.get(node.type);
+        const named = type === undefined ? node : { ...node, type };
         for (const place of this.places) place.writeOf(to, named);
     }
 }
@@ -233,6 +138,7 @@ class Form {
 class Node {
     constructor({ type, types, forms = [], any = [], chain, links = [] }) {
         this.own = forms.map((form) => ({ form: new Form(form, { type, types }), before: [] }));
+        this.ruleless = this.own.find(({ form }) => form.rule === undefined)?.form;
         this.any = any;
         this.chain = numbers.get(chain);
         this.links = links;
@@ -261,8 +167,7 @@ class Node {
     }
 
     read(from, span) {
-        const [choice] = this.own;
-        if (choice !== undefined && choice.form.rule === undefined) return choice.form.read(from, span);
+        if (this.ruleless !== undefined) return this.ruleless.read(from, span);
         const rule = from.rule();
         return rule === this.chain ? this.readChain(from, span) : this.readAfter(from, rule, span);
     }
@@ -275,8 +180,7 @@ class Node {
         return form.read(from, span);
     }
 
-    /** Reads what is leftmost in a chain, and then what follows, each after the span of what is before
-     * it. */
+    /** Reads what is leftmost in a chain, and each link after the span of what is before it. */
     readChain(from, span) {
         let node = this.readAfter(from, from.rule(), { start: 0, end: 0 });
         for (let rule = from.rule(); rule !== NOTHING; rule = from.rule()) {
@@ -307,15 +211,18 @@ class Node {
     writeChain(to, last) {
         const links = [];
         let first = last;
-        for (let form; (form = linkOf(this.linkByType, first)) !== undefined; first = first[form.left]) {
+        let form = linkOf(this.linkByType, first);
+        while (form !== undefined) {
             links.push({ form, node: first });
+            first = first[form.left];
+            form = linkOf(this.linkByType, first);
         }
         to.rule(this.chain);
         this.writeFirst(to, first);
-        for (const { form, node } of links.reverse()) {
-            to.rule(form.rule);
-            to.span(node[form.left]?.span);
-            form.write(to, node);
+        for (const link of links.reverse()) {
+            to.rule(link.form.rule);
+            to.span(link.node[link.form.left]?.span);
+            link.form.write(to, link.node);
         }
         to.rule(NOTHING);
     }
@@ -340,7 +247,8 @@ class List {
     constructor({ list, empty, ...roles }) {
         this.item = new Place(list);
         this.empty = empty;
-        this.roles = new Map(Object.entries(roles).map(([role, rule]) => [role, numbers.get(rule)]));
+        const rules = Object.entries(roles).map(([role, rule]) => [role, numbers.get(rule)]);
+        this.roles = new Map(rules);
         this.ends = new Set([this.roles.get('end'), this.roles.get('none')]);
         this.more = new Set([this.roles.get('before'), this.roles.get('first')]);
     }
@@ -466,9 +374,8 @@ function wholeOf(type) {
     return found.find((sort) => sort.any.length > 0) ?? found[0];
 }
 
-/**
- * Returns the tree that a packed form is of. Its spans are in bytes, or what `offsets` has for these.
- */
+/** Returns the tree that a packed form is of. Its spans are in bytes, or what `offsets` has for
+ * these. */
 export function treeOf(bytes, offsets, kind = 'TranslationUnit') {
     const from = new Reader(bytes, offsets);
     const tree = sorts.get(kind).read(from);

@@ -1,5 +1,5 @@
 /* Lists the bindings of a shader: reads it from the standard input, and writes a line for each
-   variable with @group and @binding, with these, its name, its address space and access mode, and its
+   variable with @group and @binding: these, its name, its address space and access mode, and its
    type. The status is that of the library. */
 #include <stdio.h>
 #include <string.h>
@@ -48,8 +48,8 @@ static int find_argument(struct wgsl_node attributes, const char *name, struct w
     return 0;
 }
 
-/* Writes the address space and the access mode of a `var`, which is in the address space `handle` if
-   it has no template. */
+/* Writes the address space and the access mode of a `var`. Without a template it is in the address
+   space `handle`, as textures and samplers are. */
 static void write_space(struct wgsl_node kind) {
     struct wgsl_node template = part_of(kind, WGSL_PART_VAR_VALUE).node;
     struct wgsl_part mode;

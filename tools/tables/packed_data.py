@@ -6,8 +6,8 @@ Run it at the top of the repository:
 
     tools/tables/packed_data.py
 
-It reads the rules and the kinds of crates/wgsl_model_packed, and crates/wgsl_model/nodes, and writes
-include/wgsl_packed.json, and the same as a module of JavaScript.
+It reads the rules and the kinds of crates/wgsl_model_packed, and crates/wgsl_model/nodes, and
+writes include/wgsl_packed.json, and the same as a module of JavaScript.
 """
 import json
 from pathlib import Path
@@ -20,10 +20,11 @@ DATA = Path("include/wgsl_packed.json")
 MODULE = Path("bindings/web/packed.js")
 
 
-def rule_data(rule):
+def rule_data(number, rule):
     """A rule as data."""
     text = json.loads(rule.text)
-    return {"name": rule.name, "places": packed_rules.places(text), "text": text}
+    places = packed_rules.places(text)
+    return {"number": number, "name": rule.name, "places": places, "text": text}
 
 
 def lines(brackets, items):
@@ -33,7 +34,7 @@ def lines(brackets, items):
 
 def data(table):
     """The text of the data, with a line for each rule and each sort."""
-    rules = [json.dumps(rule_data(rule)) for rule in packed_rules.read()]
+    rules = [json.dumps(rule_data(*it)) for it in enumerate(packed_rules.read())]
     sorts = [f"{json.dumps(name)}: {json.dumps(sort)}" for name, sort in Sorts(table).found.items()]
     parts = [f'"rules": {lines("[]", rules)}', f'"sorts": {lines("{}", sorts)}']
     return lines("{}", parts) + "\n"

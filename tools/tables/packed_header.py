@@ -14,6 +14,7 @@ import packed_rules
 from node_table import Table
 from nodes import fill
 from packed_kinds import Sorts
+from packed_places import code
 
 HEADER = Path("include/wgsl_packed.h")
 # what a rule is in a list, by its role there
@@ -36,8 +37,7 @@ def numbered(sorts, rule, places, left):
     """The number of each part of a rule that fills a field."""
     at = len("%") if left else 0
     for place in places:
-        code = sorts.code(place)
-        at += len(code)
+        at += len(code(sorts.found, place))
         if place["sort"] != "nothing":
             yield f"WGSL_PART_{rule.upper()}_{field_of(place).upper()}", at - 1
 

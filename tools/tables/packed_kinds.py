@@ -1,5 +1,5 @@
 """Reads crates/wgsl_model_packed/kinds: what may be at each place of a packed form. For
-tools/tables/packed_data.py and tools/tables/packed_header.py.
+tools/tables/packed_data.py, tools/tables/packed_header.py and tools/tables/tree_types.py.
 
 A sort says what is at a place: a text, one of some words, a node that has some forms, any of some
 sorts, a list, or what may be left out.
@@ -8,6 +8,7 @@ import re
 from functools import partial
 from pathlib import Path
 
+import packed_places
 import packed_rules
 from node_table import separated, snake
 
@@ -24,9 +25,9 @@ CONDITIONS = {
 WHOLE = "TranslationUnit"
 TEXT = "text"
 NOTHING = "nothing"
+CHAIN = "chain"
 # the rules that come before others
 BEFORE = ["ended", "type_attribute"]
-CHAIN = "chain"
 
 
 def lines():
@@ -53,7 +54,7 @@ class Sorts:
         self.place_of(WHOLE)
         for name, make in self.left:
             self.found[name] = make()
-        self.check()
+        packed_places.check(self.found, self.rules)
 
     def add(self, name, make):
         """The name of a sort, which is made later if it isn't there."""
@@ -115,19 +116,23 @@ class Sorts:
     def enum(self, kind):
         """One of the variants of an enum."""
         made = {"any": []}
-        groups = [it for it in self.lines if it.startswith(f"{kind.name} of ")]
-        for group in groups:
-            held = group.split(" of ")[1]
-            held = "" if held == "nothing" else held
-            self.add(group, partial(self.by_name, kind, group, held))
-            made["any"].append({"sort": group})
+        groups = self.groups(kind)
+        for held, name in groups.items():
+            self.add(name, partial(self.by_word, kind, name, held))
+            made["any"].append({"sort": name})
         for variant, held in kind.parts:
-            if f"{kind.name}.{variant}" in self.lines:
-                self.add_any(made, f"{kind.name}.{variant}",
-                             partial(self.variant, kind.name, variant, held))
-            elif f"{kind.name} of {held or 'nothing'}" not in groups:
+            name = f"{kind.name}.{variant}"
+            if name in self.lines:
+                self.add_any(made, name, partial(self.variant, kind.name, variant, held))
+            elif held not in groups:
                 self.add_any(made, held, partial(self.held, held))
         return made
+
+    def groups(self, kind):
+        """What variants of an enum hold whose name is a text, with the names of their lines."""
+        front = f"{kind.name} of "
+        held = [it.removeprefix(front) for it in self.lines if it.startswith(front)]
+        return {it if it in self.table.by_name else "": front + it for it in held}
 
     def held(self, held):
         kind = self.table.by_name[held]
@@ -140,18 +145,20 @@ class Sorts:
         if first == CHAIN:
             made.setdefault(CHAIN, CHAIN)
             made.setdefault("links", []).append(name)
+        elif first in BEFORE:
+            made["any"].append({"sort": name, "before": first})
         else:
-            made["any"].append({"sort": name, **({"before": first} if first in BEFORE else {})})
+            made["any"].append({"sort": name})
 
-    def by_name(self, kind, group, held):
+    def by_word(self, kind, name, held):
         """The variants of an enum that hold the same, of which a text says which one it is."""
         words = self.table.attribute_words() if kind.name == "Attribute" else {}
-        types = {words.get(name, snake(name)): type_of(kind.name, name)
-                 for name, of in kind.parts if of == held}
+        types = {words.get(variant, snake(variant)): type_of(kind.name, variant)
+                 for variant, of in kind.parts if of == held}
         places = [{"field": "type", "sort": TEXT}]
         if held:
             places.append({"field": "value", **self.place_of(held)})
-        return {"types": types, "forms": [{"rule": self.lines[group], "places": places}]}
+        return {"types": types, "forms": [{"rule": self.lines[name], "places": places}]}
 
     def variant(self, enum, variant, held):
         """A variant that holds no struct."""
@@ -172,34 +179,38 @@ class Sorts:
 
     def struct(self, kind, name=None):
         """A struct, by the rules in the line of a name."""
-        forms = []
-        for rule in self.lines[name or kind.name].split(", "):
-            forms.append(self.form(kind, name or kind.name, rule.split(" ")[-1]))
-        return {"type": kind.name, "forms": forms}
+        name = name or kind.name
+        rules = [it.split(" ")[-1] for it in self.lines[name].split(", ")]
+        return {"type": kind.name, "forms": [self.form(kind, name, rule) for rule in rules]}
 
     def form(self, kind, name, rule):
-        """A form of a struct: its rule, what fills the places of that, and which fields are left
-        out."""
-        fields = dict(kind.parts)
-        if not rule:
-            places = [self.field(kind, name, *it, None) for it in fields.items()]
-            return {"places": places}
-        form = {"rule": rule, "places": []}
-        json = self.rules[rule].json
-        # JSON without names is of the first fields
-        for field, shape in FIELD.findall(json) or zip(fields, packed_rules.places(json)):
-            if shape == "%":
-                form["left"] = field
-            else:
-                form["places"].append(self.field(kind, name, field, fields.get(field), shape))
-        out = {field: None for field, held in fields.items()
-               if held.endswith("?") and field not in self.fields(form)}
-        form.update({"values": out} if out else {})
-        form.update({"if": CONDITIONS[rule]} if rule in CONDITIONS else {})
+        """A form of a struct: its rule, what fills the places of that, which field is the left one
+        of a chain, and which are left out."""
+        shapes = self.shapes(kind, rule)
+        left = [field for field, shape in shapes.items() if shape == "%"]
+        form = {"rule": rule} if rule else {}
+        form["places"] = [self.field(kind, name, *it) for it in shapes.items() if it[0] not in left]
+        if left:
+            form["left"], = left
+        filled = [*left, *self.fields(form)]
+        if out := [it for it, _ in kind.parts if it not in filled]:
+            form["values"] = dict.fromkeys(out)
+        if rule in CONDITIONS:
+            form["if"] = CONDITIONS[rule]
         return form
 
-    def field(self, kind, name, field, held, shape):
+    def shapes(self, kind, rule):
+        """The fields that the JSON of a rule names, with what fills their places. JSON without
+        names is of the first fields; a struct without a rule has the places of its fields."""
+        names = [field for field, _ in kind.parts]
+        if not rule:
+            return dict.fromkeys(names, "")
+        json = self.rules[rule].json
+        return dict(FIELD.findall(json) or zip(names, packed_rules.places(json)))
+
+    def field(self, kind, name, field, shape):
         """The place of a field, or of a group of fields that are left out together."""
+        held = dict(kind.parts).get(field)
         line = f"{name}.{field}" if f"{name}.{field}" in self.lines else f"{kind.name}.{field}"
         if held is None:
             return self.group(line, dict(kind.parts))
@@ -232,49 +243,3 @@ class Sorts:
             place = self.list_of(line, held) if line in self.lines else self.place_of(held)
             places.append({"field": field, **place})
         return {"sort": self.add(name, lambda: {"group": places, "rule": rule})}
-
-    def code(self, place):
-        """The places in the text of a rule that a place of a node is."""
-        sort = self.found[place["sort"]]
-        if "text" in sort or "words" in sort:
-            return "#"
-        if "forms" in sort and "rule" not in sort["forms"][0]:
-            return self.codes(sort["forms"][0]["places"])
-        return ("%" if place.get("spanned") else "") + "$"
-
-    def codes(self, places):
-        return "".join(map(self.code, places))
-
-    def uses(self):
-        """Each rule that a sort names, with the places that its text has to have."""
-        for sort in self.found.values():
-            for form in sort.get("forms", []):
-                around = ("%", "$") if "left" in form else ("", "")
-                if "rule" in form:
-                    yield form["rule"], self.codes(form["places"]).join(around)
-            if "list" in sort:
-                item = self.code(sort["list"])
-                wanted = {"before": f"{item}$", "first": f"{item}$", "last": item, "void": "%$",
-                          "end": "", "none": ""}
-                yield from ((sort[it], places) for it, places in wanted.items() if it in sort)
-            if "option" in sort:
-                yield sort["rule"], self.code(sort["option"])
-            if "group" in sort:
-                yield sort["rule"], self.codes(sort["group"])
-            for it in sort.get("any", []):
-                if "before" in it:
-                    yield it["before"], "$"
-            if CHAIN in sort:
-                yield CHAIN, "$$"
-            if "nothing" in sort:
-                yield NOTHING, ""
-
-    def check(self):
-        """Fails if a rule has other places than those of what it is of, or is of nothing."""
-        used = dict.fromkeys(self.rules, False)
-        for rule, places in self.uses():
-            used[rule] = True
-            if packed_rules.places(self.rules[rule].text) != places:
-                raise SystemExit(f"{KINDS}: the rule {rule} has other places than {places!r}")
-        if unused := [rule for rule, is_used in used.items() if not is_used]:
-            raise SystemExit(f"{KINDS}: of nothing are the rules {', '.join(unused)}")

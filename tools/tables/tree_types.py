@@ -5,7 +5,8 @@ Run it at the top of the repository:
 
     tools/tables/tree_types.py
 
-It reads crates/wgsl_model/nodes, and the names of further fields from crates/wgsl_model_packed/kinds.
+It reads crates/wgsl_model/nodes, and from crates/wgsl_model_packed/kinds the names of further
+fields.
 """
 import re
 from pathlib import Path
@@ -100,7 +101,7 @@ class Types:
         return "\n".join([f"/** {doc} */", f"export interface {name} {{", *body, "}"])
 
     def struct(self, kind):
-        fields = [(name, held, field_doc(self.table, kind, name, held)) for name, held in kind.parts]
+        fields = [(*it, field_doc(self.table, kind, *it)) for it in kind.parts]
         return [self.interface(kind.name, kind.doc, fields)]
 
     def variant(self, kind, name, held):
