@@ -502,12 +502,17 @@ static inline struct wgsl_parts wgsl_parts_of(struct wgsl_node node) {
     return parts;
 }
 
+/* Returns a part that is not there. */
+static inline struct wgsl_part wgsl_no_part(void) {
+    static const struct wgsl_part none = {' ', {NULL, 0}, NULL, 0, 0, 0};
+    return none;
+}
+
 /* Takes the next part of a node: one of enum wgsl_presence. A node that is the last part has all
  * bytes that are left. */
 static inline int wgsl_next_part(struct wgsl_parts *parts, struct wgsl_part *part) {
-    static const struct wgsl_part nothing = {' ', {NULL, 0}, NULL, 0, 0, 0};
     int is_there;
-    *part = nothing;
+    *part = wgsl_no_part();
     if (parts->places == NULL) {
         return WGSL_IS_NOT_PACKED;
     }
@@ -527,7 +532,7 @@ static inline int wgsl_next_part(struct wgsl_parts *parts, struct wgsl_part *par
         is_there = wgsl_take_node(&parts->left, &part->node);
     }
     if (!is_there) {
-        *part = nothing;
+        *part = wgsl_no_part();
         parts->places = NULL;
     }
     return is_there ? WGSL_IS_THERE : WGSL_IS_NOT_PACKED;
@@ -566,23 +571,25 @@ static inline int wgsl_option_of(struct wgsl_node node, struct wgsl_part *part) 
 
 /* Takes the next item of a list, which is then what follows that: one of enum wgsl_presence. */
 static inline int wgsl_next_item(struct wgsl_node *list, struct wgsl_part *item) {
-    static const struct wgsl_node nothing = {NULL, 0};
     struct wgsl_parts parts = wgsl_parts_of(*list);
-    struct wgsl_part rest;
+    struct wgsl_part rest = wgsl_no_part();
     char role = list->size > 0 ? wgsl_role_of(wgsl_rule_of(*list)) : 'e';
-    int presence = role == 'v' ? wgsl_next_part(&parts, item) : wgsl_next_item_part(&parts, item);
+    int presence = WGSL_IS_NOT_PACKED;
+    *item = rest;
     if (role == 'e') {
         return WGSL_IS_END;
     }
     if (role == 'v') {
+        presence = wgsl_next_part(&parts, item);
         item->place = ' ';
+    } else if (role != ' ') {
+        presence = wgsl_next_item_part(&parts, item);
     }
-    *list = nothing;
     if (presence == WGSL_IS_THERE && role != 'l') {
         presence = wgsl_next_part(&parts, &rest);
-        *list = rest.node;
     }
-    return role == ' ' ? WGSL_IS_NOT_PACKED : presence;
+    *list = rest.node;
+    return presence;
 }
 
 #endif

@@ -28,6 +28,16 @@ DEEPEST = 50_000
 NUMBER = re.compile(r'("(?:AbstractInt|I32|U32)":)(-?\d+)')
 
 
+# how tools/tree_test.ts is checked
+TSC = ["tsc", "--noEmit", "--strict", "--target", "es2022", "--module", "nodenext",
+       "--moduleResolution", "nodenext", TOP / "tools" / "tree_test.ts"]
+
+
+def check_types():
+    """What TypeScript says against the types of the trees, nothing if it is right."""
+    return subprocess.run(TSC, capture_output=True, text=True).stdout
+
+
 def texts():
     """The texts, each with the number of its kind."""
     rows = [row for file in sorted((TOP / "tests" / "rows").glob("*.txt")) for row in rows_of(file)]

@@ -56,9 +56,14 @@ export class Reader {
 /** A packed form that is being written. */
 export class Writer {
     constructor() {
-        this.bytes = new Uint8Array(256);
+        this.use(new Uint8Array(256));
         this.size = 0;
         this.encoder = new TextEncoder();
+    }
+
+    use(bytes) {
+        this.bytes = bytes;
+        this.view = new DataView(bytes.buffer);
     }
 
     /** Makes room for so many bytes, and returns where they begin. */
@@ -68,7 +73,7 @@ export class Writer {
         if (this.size > this.bytes.length) {
             const larger = new Uint8Array(2 * this.size);
             larger.set(this.bytes);
-            this.bytes = larger;
+            this.use(larger);
         }
         return at;
     }
@@ -80,16 +85,18 @@ export class Writer {
 
     number(number) {
         const at = this.make(8);
-        const view = new DataView(this.bytes.buffer);
-        view.setUint32(at, number % HIGH, true);
-        view.setUint32(at + 4, Math.floor(number / HIGH), true);
+        this.view.setUint32(at, number % HIGH, true);
+        this.view.setUint32(at + 4, Math.floor(number / HIGH), true);
     }
 
     text(text) {
-        const bytes = this.encoder.encode(text);
-        this.number(bytes.length);
-        const at = this.make(bytes.length);
-        this.bytes.set(bytes, at);
+        const start = this.make(8);
+        // a UTF-16 unit takes at most three bytes
+        const at = this.make(3 * text.length);
+        const { written } = this.encoder.encodeInto(text, this.bytes.subarray(at));
+        this.size = start;
+        this.number(written);
+        this.size += written;
     }
 
     span(span) {

@@ -92,7 +92,7 @@ function fits(value, pattern) {
 
 /** A form of a node: its rule, and what fills the places of that. */
 class Form {
-    constructor({ rule, places, values = {}, left, if: conditions = [{}] }, { type, types = {} }) {
+    constructor({ rule, places, values, left, if: conditions }, { type, types = {} }) {
         this.rule = numbers.get(rule);
         this.places = places.map((place) => new Place(place));
         this.values = values;
@@ -114,7 +114,7 @@ class Form {
         if (this.left !== undefined) node[this.left] = left;
         for (const place of this.places) place.fill(from, node);
         if (this.type === undefined) node.type = this.namedType(node.type);
-        return Object.assign(node, this.values);
+        return this.values === undefined ? node : Object.assign(node, this.values);
     }
 
     namedType(word) {
@@ -123,7 +123,8 @@ class Form {
     }
 
     isOf(node) {
-        return fits(node, this.values) && this.conditions.some((pattern) => fits(node, pattern));
+        if (this.values !== undefined && !fits(node, this.values)) return false;
+        return this.conditions?.some((pattern) => fits(node, pattern)) ?? true;
     }
 
     /** Writes what fills the places. */
@@ -158,11 +159,9 @@ class Node {
     finish() {
         const choices = this.choices();
         const links = this.links.flatMap((sort) => sorts.get(sort).choices());
-        const key = ({ form, before }) => [...before, form.rule].join();
-        this.byRules = new Map(choices.map((it) => [key(it), it.form]));
-        this.before = new Set(choices.flatMap((it) => it.before));
+        this.byRule = byRule(choices);
         this.byType = byType(choices);
-        this.linkByRule = new Map(links.map((it) => [it.form.rule, it.form]));
+        this.linkByRule = byRule(links);
         this.linkByType = byType(links);
     }
 
@@ -174,10 +173,10 @@ class Node {
 
     /** Reads the node after the number of its first rule. */
     readAfter(from, rule, span) {
-        const key = this.before.has(rule) ? `${rule},${from.rule()}` : `${rule}`;
-        const form = this.byRules.get(key);
-        if (form === undefined) throw notPacked(`rule ${key} is no ${this.name}`);
-        return form.read(from, span);
+        let found = this.byRule.get(rule);
+        while (found instanceof Map) found = found.get(from.rule());
+        if (found === undefined) throw notPacked(`after rule ${rule} is no ${this.name}`);
+        return found.read(from, span);
     }
 
     /** Reads what is leftmost in a chain, and each link after the span of what is before it. */
@@ -226,6 +225,20 @@ class Node {
         }
         to.rule(NOTHING);
     }
+}
+
+/** Returns the forms of choices by their rules, those that come after others in maps. */
+function byRule(choices) {
+    const found = new Map();
+    for (const { form, before } of choices) {
+        let inside = found;
+        for (const rule of before) {
+            if (!inside.has(rule)) inside.set(rule, new Map());
+            inside = inside.get(rule);
+        }
+        inside.set(form.rule, form);
+    }
+    return found;
 }
 
 /** Returns the choices by the types that they are of. */

@@ -4,6 +4,7 @@ tools/tables/packed_data.py, tools/tables/packed_header.py and tools/tables/tree
 A sort says what is at a place: a text, one of some words, a node that has some forms, any of some
 sorts, a list, or what may be left out.
 """
+import json
 import re
 from functools import partial
 from pathlib import Path
@@ -15,19 +16,11 @@ from node_table import separated, snake
 KINDS = Path("crates/wgsl_model_packed/kinds")
 # a field of the JSON of a rule, and what fills its place
 FIELD = re.compile(r'"(\w+)":(\{"span":%,"node":\$\}|\[\$\]|"#"|[$#%?])')
-# the rules of a node that has several, and of which nodes they are
-CONDITIONS = {
-    "unary_apart": [{"operator": it, "operand": {"type": "UnaryExpression", "operator": it}}
-                    for it in "-&"],
-    "component_of_int": [{"base": {"type": "AbstractIntLiteralExpression"}}],
-}
 # the kind in which all others are
 WHOLE = "TranslationUnit"
 TEXT = "text"
 NOTHING = "nothing"
 CHAIN = "chain"
-# the rules that come before others
-BEFORE = ["ended", "type_attribute"]
 
 
 def lines():
@@ -140,12 +133,12 @@ class Sorts:
 
     def add_any(self, made, name, make):
         """Adds a sort to those that may be at a place: as a link of a chain, or after a rule."""
-        first = self.lines.get(name, "").split(" ")[0]
+        first, _, rule = self.lines.get(name, "").split(", ")[0].partition(" ")
         self.add(name, make)
         if first == CHAIN:
             made.setdefault(CHAIN, CHAIN)
             made.setdefault("links", []).append(name)
-        elif first in BEFORE:
+        elif rule:
             made["any"].append({"sort": name, "before": first})
         else:
             made["any"].append({"sort": name})
@@ -164,7 +157,7 @@ class Sorts:
         """A variant that holds no struct."""
         name = f"{enum}.{variant}"
         made = {"type": type_of(enum, variant), "forms": []}
-        for rule in self.lines[name].removeprefix("ended ").split(", "):
+        for rule in self.rules_of(name):
             form = {"rule": rule, "places": []}
             if held == "bool":
                 form["values"] = {"value": rule == "true"}
@@ -180,8 +173,12 @@ class Sorts:
     def struct(self, kind, name=None):
         """A struct, by the rules in the line of a name."""
         name = name or kind.name
-        rules = [it.split(" ")[-1] for it in self.lines[name].split(", ")]
-        return {"type": kind.name, "forms": [self.form(kind, name, rule) for rule in rules]}
+        forms = [self.form(kind, name, rule) for rule in self.rules_of(name)]
+        return {"type": kind.name, "forms": forms}
+
+    def rules_of(self, name):
+        """The rules in the line of a name, without those that come before."""
+        return [it.split(" ")[-1] for it in self.lines[name].split(", ")]
 
     def form(self, kind, name, rule):
         """A form of a struct: its rule, what fills the places of that, which field is the left one
@@ -195,8 +192,8 @@ class Sorts:
         filled = [*left, *self.fields(form)]
         if out := [it for it, _ in kind.parts if it not in filled]:
             form["values"] = dict.fromkeys(out)
-        if rule in CONDITIONS:
-            form["if"] = CONDITIONS[rule]
+        if patterns := self.lines.get(f"{rule} if"):
+            form["if"] = json.loads(patterns)
         return form
 
     def shapes(self, kind, rule):
@@ -205,8 +202,8 @@ class Sorts:
         names = [field for field, _ in kind.parts]
         if not rule:
             return dict.fromkeys(names, "")
-        json = self.rules[rule].json
-        return dict(FIELD.findall(json) or zip(names, packed_rules.places(json)))
+        text = self.rules[rule].json
+        return dict(FIELD.findall(text) or zip(names, packed_rules.places(text)))
 
     def field(self, kind, name, field, shape):
         """The place of a field, or of a group of fields that are left out together."""
