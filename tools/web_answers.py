@@ -1,7 +1,9 @@
 """What the package for JavaScript has to return of a text, by the calls of the native library: one
 JSON value a text, which bindings/web/test/compare.js compares with what it returns."""
+import hashlib
 import json
 import struct
+from ctypes import c_uint32
 
 from native import DONE, REFUSED
 
@@ -39,14 +41,24 @@ class Places:
         return len(before), len(before[-1]) + 1
 
 
+def shortened(message, expected):
+    """A message that names the first four of many that were expected."""
+    listed = f"`{', '.join(expected)}`"
+    if len(expected) < 6 or not message.endswith(listed):
+        return message
+    front = message.removesuffix(listed)
+    return f"{front}`{', '.join(expected[:4])}` or {len(expected) - 4} others"
+
+
 def fault(places, said, texts=None):
     """An error of the package: what a call says of a text that it refuses."""
     message, *expected = (texts or said.written).decode().split("\0")
     start, end = said.answer.start, said.answer.end
     line, column = places.line_and_column(start)
-    return {"kind": KINDS[said.answer.kind], "message": message,
-            "expected": expected[:said.answer.expected], "start": places.unit(start),
-            "end": places.unit(end), "line": line, "column": column}
+    expected = expected[:said.answer.expected]
+    return {"kind": KINDS[said.answer.kind], "message": shortened(message, expected),
+            "expected": expected, "start": places.unit(start), "end": places.unit(end),
+            "line": line, "column": column}
 
 
 def outcome(places, said, value):
@@ -64,6 +76,18 @@ def text(said):
 def minified(said):
     front, back = said.written[:said.answer.start], said.written[said.answer.start:]
     return {"text": front.decode(), "names": list(json.loads(back).items())}
+
+
+def tree(library, source, places):
+    """The sum of the packed form of a module, whose spans are those of the package in ASCII alone,
+    and what is printed of it."""
+    said = library.call("packed_tree", source, before=[c_uint32(0)])
+
+    def value(said):
+        printed = text(library.call("print", said.written))
+        return [hashlib.sha256(said.written).hexdigest() if places.is_ascii else None, printed]
+
+    return outcome(places, said, value)
 
 
 def tokens(library, name, source, places):
@@ -85,6 +109,7 @@ def answers(library, source):
         "format": outcome(places, library.call("format", source), text),
         "tidy": [outcome(places, library.tidy(source, it), text) for it in LAYOUTS],
         "minify": [outcome(places, library.minify(source, it), minified) for it in NAMES.values()],
+        "tree": tree(library, source, places),
         "tokens": tokens(library, "tokens", source, places),
         "comments": tokens(library, "tokens_with_comments", source, places),
         "lists": [[places.unit(it) for it in pair] for pair in PLACE.iter_unpack(lists)],

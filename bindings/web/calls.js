@@ -4,10 +4,18 @@ import { REFUSED, number, written } from './engine.js';
 import { WgslError } from './error.js';
 import { KINDS } from './kinds.js';
 import { Source, textOf } from './text.js';
+import { packed, treeOf } from './tree.js';
 
 /** The numbers of what is chosen, in `wgsl.h`. */
 const NEWLINES = { auto: 0, lf: 1, crlf: 2 };
 const NAMES = { none: 0, locals: 1, all: 2 };
+const TREES = {
+  TranslationUnit: 0,
+  GlobalDirective: 1,
+  GlobalDeclaration: 2,
+  Statement: 3,
+  Expression: 4,
+};
 
 /** How many columns a level has as which a tab counts. */
 const TAB_COLUMNS = 4;
@@ -15,6 +23,8 @@ const TAB_COLUMNS = 4;
 const LAYOUT_SIZE = 16;
 /** For how many bytes of a text, or more, the texts of a fault have room. */
 const LEAST_ROOM = 1024;
+/** How many bytes most packed forms have for a byte of their text. */
+const PACKED = 28;
 /** How many numbers of 32 bits a token and a place have. */
 const TOKEN = 6;
 const PLACE = 4;
@@ -131,4 +141,18 @@ export function templateLists(text) {
 /** Returns how many brackets, blocks, template lists and prefix operators are open at one place. */
 export function nesting(text) {
   return number('nesting', new Source(text).bytes);
+}
+
+/** Returns the tree of a kind that a text is. */
+export function parse(text, kind) {
+  const number = chosen(TREES, 'kind', kind, 'TranslationUnit');
+  const source = new Source(text);
+  const said = answered('packed_tree', source, PACKED * source.bytes.length, () => [number]);
+  return treeOf(said.bytes, source.offsets(), kind);
+}
+
+/** Returns the text that a node prints as. */
+export function print(node) {
+  const form = packed(node);
+  return textOf(written('print', form, Math.max(LEAST_ROOM, form.length)).bytes);
 }

@@ -9,8 +9,18 @@ const KINDS = {
   6: 'DiagnosticSeverity',
   7: 'Attribute',
   8: 'VarTemplate',
-  10: 'NotAForm',
 };
+
+/** How many of the expected tokens a message names, unless one more is all. */
+const NAMED = 4;
+
+/** What a message says of what was expected: all of it, or the first, if that is much. */
+function namedOf(expected) {
+  if (expected.length === 0) return '';
+  if (expected.length <= NAMED + 1) return `, expected \`${expected.join(', ')}\``;
+  const named = expected.slice(0, NAMED).join(', ');
+  return `, expected \`${named}\` or ${expected.length - NAMED} others`;
+}
 
 /** How many characters a string has: a pair of surrogates is one. */
 function characterCount(text) {
@@ -30,33 +40,32 @@ function lineAndColumn(text, place) {
  * it nests too deep for the stack; or `OutOfMemory`. The last two have no place.
  */
 export class WgslError extends Error {
+  #alone;
   #source;
 
-  constructor(kind, message, { source = '', start = 0, end = 0, expected = [] } = {}) {
-    super(message);
+  /** Makes an error of a message without what was expected. */
+  constructor(kind, alone, { source = '', start = 0, end = 0, expected = [] } = {}) {
+    super(alone + namedOf(expected));
     this.name = 'WgslError';
     this.kind = kind;
     this.expected = expected;
     this.start = start;
     this.end = end;
     Object.assign(this, lineAndColumn(source, start));
+    this.#alone = alone;
     this.#source = source;
   }
 
-  /** The fault with a number of the library. */
+  /** The fault with a number of the library, whose message has all that was expected. */
   static numbered(number, message, place) {
-    return new WgslError(KINDS[number], message, place);
+    const tail = `, expected \`${place.expected.join(', ')}\``;
+    const alone = message.endsWith(tail) ? message.slice(0, -tail.length) : message;
+    return new WgslError(KINDS[number], alone, place);
   }
 
   /** Whether it has a place in its text. */
   get #hasPlace() {
     return this.kind !== 'OutOfMemory' && this.kind !== 'TooDeep';
-  }
-
-  /** The message without what was expected. */
-  get #messageAlone() {
-    const tail = `, expected \`${this.expected.join(', ')}\``;
-    return this.message.endsWith(tail) ? this.message.slice(0, -tail.length) : this.message;
   }
 
   /** The line in which it starts, and below that a mark for each of its characters there. */
@@ -71,8 +80,8 @@ export class WgslError extends Error {
 
   /** Writes it as compilers do: `NAME:LINE:COLUMN: error: MESSAGE`, the line, and marks below it. */
   inFile(name) {
-    if (!this.#hasPlace) return `${name}: error: ${this.#messageAlone}`;
+    if (!this.#hasPlace) return `${name}: error: ${this.#alone}`;
     const place = `${name}:${this.line}:${this.column}`;
-    return `${place}: error: ${this.#messageAlone}\n${this.#markedLine()}`;
+    return `${place}: error: ${this.#alone}\n${this.#markedLine()}`;
   }
 }

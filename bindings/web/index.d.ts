@@ -1,8 +1,10 @@
 // What the package exports, in web pages and in Node.
 
 import type { TokenKind } from './kinds.js';
+import type { Kinds, Node, Span, TranslationUnit, Unspanned } from './tree.js';
 
 export type { TokenKind };
+export * from './tree.js';
 
 /** Where the module comes from: its bytes, a compiled one, its address, or what `fetch` returns. */
 export type InitInput =
@@ -23,13 +25,7 @@ export function init(input?: InitInput): Promise<void>;
 /** Makes the calls ready at once, by the bytes of `centrelilac/centrelilac.wasm`. */
 export function initSync(input: BufferSource | WebAssembly.Module): void;
 
-/** A part of a text, in UTF-16 units, as JavaScript counts them: `text.slice(start, end)`. */
-export interface Span {
-  start: number;
-  end: number;
-}
-
-/** A token or a comment. */
+/** A token or a comment, and its place in UTF-16 units: `text.slice(start, end)`. */
 export interface Token extends Span {
   kind: TokenKind;
 }
@@ -127,6 +123,20 @@ export function tokensBeforeFault(
   text: string,
   options?: { comments?: boolean },
 ): { tokens: Token[]; fault?: WgslError };
+
+/**
+ * Returns the tree of a module, as plain objects, with its spans in UTF-16 units; or the tree of
+ * another kind that a text is.
+ * @throws {WgslError}
+ */
+export function parse(text: string): TranslationUnit;
+export function parse<Kind extends keyof Kinds>(text: string, kind: Kind): Kinds[Kind];
+
+/**
+ * Returns the text that a node prints as. Spans do not matter, and may be left out.
+ * @throws {TypeError} If it is no node.
+ */
+export function print(node: Unspanned<Node>): string;
 
 /** Returns the template lists of a text, each from its `<` to after its `>`. */
 export function templateLists(text: string): Span[];

@@ -3,6 +3,7 @@
 import { isStarted, start } from './engine.js';
 
 export * from './calls.js';
+export { packed, treeOf } from './tree.js';
 export { WgslError } from './error.js';
 
 let starting;

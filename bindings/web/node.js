@@ -5,6 +5,7 @@ import { isStarted } from './engine.js';
 import { initFrom } from './index.js';
 
 export * from './calls.js';
+export { packed, treeOf } from './tree.js';
 export { WgslError } from './error.js';
 export { initSync } from './index.js';
 

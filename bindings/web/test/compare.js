@@ -1,6 +1,7 @@
 // Compares what the package returns with what the native library does: a line of the standard input
 // is a text with that, as tools/web_answers.py makes it. Prints the number of texts, or what differs.
 
+import { createHash } from 'node:crypto';
 import { createInterface } from 'node:readline';
 import { isDeepStrictEqual } from 'node:util';
 import { KINDS, wgsl } from './package.js';
@@ -32,6 +33,14 @@ function minified(text, names) {
   return { text: made.text, names: Object.entries(made.names) };
 }
 
+/** The sum of the packed form of the tree, of a text of ASCII, and what is printed of it. */
+function treeOf(text) {
+  const tree = wgsl.parse(text);
+  const isAscii = Buffer.byteLength(text) === text.length;
+  const sum = isAscii ? createHash('sha256').update(wgsl.packed(tree)).digest('hex') : null;
+  return [sum, wgsl.print(tree)];
+}
+
 function tokensOf(text, comments) {
   const { tokens, fault } = wgsl.tokensBeforeFault(text, { comments });
   const numbered = tokens.map(({ kind, start, end }) => [KINDS.indexOf(kind), start, end]);
@@ -46,6 +55,7 @@ function answers(text) {
     format: outcome(() => wgsl.format(text)),
     tidy: LAYOUTS.map((layout) => outcome(() => wgsl.tidy(text, layout))),
     minify: NAMES.map((names) => outcome(() => minified(text, names))),
+    tree: outcome(() => treeOf(text)),
     tokens: tokensOf(text, false),
     comments: tokensOf(text, true),
     lists: wgsl.templateLists(text).map(({ start, end }) => [start, end]),
