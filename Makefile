@@ -5,14 +5,18 @@ bin = $(DESTDIR)$(PREFIX)/bin
 man = $(DESTDIR)$(PREFIX)/share/man/man1
 headers = $(DESTDIR)$(PREFIX)/include
 libraries = $(DESTDIR)$(PREFIX)/lib
+included = wgsl.h wgsl_packed.h wgsl_packed.json
 
-.PHONY: help demo build lib site tables test prove mutants programs browsers install uninstall dist clean
+.PHONY: help demo build lib web site tables test prove mutants programs browsers install uninstall
+.PHONY: dist clean
 
 help:
 	@echo "make demo       formats a shader with wgsltidy, and prints it with wgslfmt, without proofs"
 	@echo "make build      proves the three programs and what they depend on, and puts them into build/"
-	@echo "make lib        proves the library for C and Rust, build/libwgsl.a"
-	@echo "make site       puts the page of web/ into build/site, once \`make web\` has made build/web"
+	@echo "make lib        proves the library for C and Rust, build/libwgsl.a; with ARCH=aarch64"
+	@echo "                build/aarch64/libwgsl.a"
+	@echo "make web        makes the npm package build/web of that library, as WebAssembly"
+	@echo "make site       makes the page build/site of that package and of web/"
 	@echo "make install    installs the programs, their man pages, and the library if it is built, below"
 	@echo "                PREFIX, which is $(PREFIX)"
 	@echo "make uninstall  removes them"
@@ -35,7 +39,10 @@ build:
 	@tools/build
 
 lib:
-	@tools/build lib
+	@tools/build lib $(ARCH)
+
+web:
+	@tools/web
 
 site:
 	@tools/site
@@ -111,17 +118,19 @@ install:
 	done
 	@if test -f build/libwgsl.a; then \
 	    install -d "$(headers)" "$(libraries)/pkgconfig" \
-	        && install -m 644 include/wgsl.h "$(headers)/wgsl.h" \
+	        && install -m 644 $(included:%=include/%) "$(headers)" \
 	        && install -m 644 build/libwgsl.a "$(libraries)/libwgsl.a" \
 	        && install -m 644 include/wgsl.pc "$(libraries)/pkgconfig/wgsl.pc" || exit 1; \
-	    echo "Installed $(libraries)/libwgsl.a, $(headers)/wgsl.h and $(libraries)/pkgconfig/wgsl.pc."; \
+	    echo "Installed $(libraries)/libwgsl.a, $(libraries)/pkgconfig/wgsl.pc, and in $(headers):"; \
+	    echo "$(included)."; \
 	fi
 
 uninstall:
 	@for program in wgsltidy wgslfmt wgslmin; do \
 	    rm -f "$(bin)/$$program" "$(man)/$$program.1"; \
 	done
-	@rm -f "$(headers)/wgsl.h" "$(libraries)/libwgsl.a" "$(libraries)/pkgconfig/wgsl.pc"
+	@for file in $(included); do rm -f "$(headers)/$$file"; done
+	@rm -f "$(libraries)/libwgsl.a" "$(libraries)/pkgconfig/wgsl.pc"
 
 dist:
 	@tools/dist
