@@ -13,7 +13,7 @@ from contextlib import contextmanager
 from web_socket import WebSocket
 
 # a command or a page that takes longer, in seconds, has failed
-PATIENCE = 120
+PATIENCE = 60
 # by the name of each browser: what is started, and of which of Debian's packages that is
 NEEDED = {
     "Chromium": {"chromium": "chromium", "chromedriver": "chromium-driver"},
