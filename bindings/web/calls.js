@@ -1,6 +1,6 @@
 // The calls of the library, over strings.
 
-import { REFUSED, number, written } from './engine.js';
+import { REFUSED, number, withStack, written } from './engine.js';
 import { WgslError } from './error.js';
 import { KINDS } from './kinds.js';
 import { Source, textOf } from './text.js';
@@ -148,11 +148,11 @@ export function parse(text, kind) {
   const number = chosen(TREES, 'kind', kind, 'TranslationUnit');
   const source = new Source(text);
   const said = answered('packed_tree', source, PACKED * source.bytes.length, () => [number]);
-  return treeOf(said.bytes, source.offsets(), kind);
+  return withStack(() => treeOf(said.bytes, source.offsets(), kind));
 }
 
 /** Returns the text that a node prints as. */
 export function print(node) {
-  const form = packed(node);
+  const form = withStack(() => packed(node));
   return textOf(written('print', form, Math.max(LEAST_ROOM, form.length)).bytes);
 }

@@ -13,6 +13,9 @@ const NUMBER = 8;
 /** The numbers of `struct wgsl_answer`. */
 const ANSWER = ['size', 'start', 'end', 'kind', 'expected'];
 
+/** How much memory an instance may keep after a call: it never shrinks, so a greater one is left. */
+const KEPT = 1 << 26;
+
 let module;
 let exports;
 
@@ -57,30 +60,45 @@ function outOfMemory() {
   return new WgslError('OutOfMemory', 'out of memory');
 }
 
-/** Whether an error of the engine ends a call: a trap, or a stack that ends. */
+/** Whether the engine ended a call: by a trap, or as its stack ended. */
 function isTrap(error) {
   // Firefox has an error of its own for the stack
-  const isStack = error instanceof RangeError || error.name === 'InternalError';
-  return error instanceof WebAssembly.RuntimeError || isStack;
+  const isStack = error instanceof RangeError || error?.name === 'InternalError';
+  return isStack || error instanceof WebAssembly.RuntimeError;
 }
 
-/** Runs a call with blocks of its own, and makes the instance anew after a trap. */
+/**
+ * Runs what takes stack for each level that something nests, and nothing else that ends it: every
+ * function of the library is proved to be safe.
+ */
+export function withStack(body) {
+  try {
+    return body();
+  } catch (error) {
+    throw isTrap(error) ? new WgslError('TooDeep', 'the text nests too deep') : error;
+  }
+}
+
+/** How many bytes of memory the instance has. */
+export function memorySize() {
+  return exports?.memory.buffer.byteLength ?? 0;
+}
+
+/** Leaves the instance, in place of which the next call makes one. */
+function leave() {
+  exports = undefined;
+}
+
+/** Runs a call with blocks of its own. */
 function withBlocks(body) {
   if (!module) throw new Error('await init() before the first call');
   exports ??= new WebAssembly.Instance(module).exports;
   const blocks = new Blocks();
   try {
-    const result = body(blocks);
-    blocks.giveAll();
-    return result;
-  } catch (error) {
-    if (isTrap(error)) {
-      // the call has no other trap: every function is proved to be safe
-      exports = undefined;
-      throw new WgslError('TooDeep', 'the text nests too deep');
-    }
-    blocks.giveAll();
-    throw error;
+    return body(blocks);
+  } finally {
+    if (exports) blocks.giveAll();
+    if (memorySize() > KEPT) leave();
   }
 }
 
@@ -95,10 +113,18 @@ function answerAt(place, status) {
   return { status, ...Object.fromEntries(ANSWER.map((name, at) => [name, numbers[at]])) };
 }
 
-/** Makes a call with what its parameters are, pointers and sizes as 64-bit numbers. */
+/**
+ * Makes a call with what its parameters are, pointers and sizes as 64-bit numbers. A trap leaves
+ * memory in use, so the instance is left.
+ */
 function status(name, before, given, buffer, answer) {
   const wide = [...given, ...buffer, answer].map(BigInt);
-  return exports[`wgsl_c_${name}`](...before, ...wide);
+  try {
+    return withStack(() => exports[`wgsl_c_${name}`](...before, ...wide));
+  } catch (error) {
+    leave();
+    throw error;
+  }
 }
 
 /**

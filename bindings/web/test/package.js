@@ -9,3 +9,4 @@ export function fileOf(name) {
 
 export const wgsl = await import(fileOf('node.js'));
 export const { KINDS } = await import(fileOf('kinds.js'));
+export const { memorySize } = await import(fileOf('engine.js'));
