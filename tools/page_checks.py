@@ -15,14 +15,18 @@ MINIFIED = "const a=31;"
 LONG = 1_000_000
 
 VERDICT = "() => document.querySelector('#verdict').textContent"
-FAULT = "() => [...document.querySelectorAll('#source .fault')].map((it) => it.textContent).join()"
+UNDERLINED = """() => [...document.querySelectorAll('#source .fault')]
+    .map((it) => it.textContent).join()"""
 EDITED = "(panel) => document.querySelector(`#${panel} .CodeMirror`).CodeMirror.getValue()"
 TEXT = "(selector) => document.querySelector(selector).textContent.trim()"
-TEXTS = "(selector) => [...document.querySelectorAll(selector)].map((it) => it.textContent.trim())"
+TEXTS = """(selector) => [...document.querySelectorAll(selector)]
+    .map((it) => it.textContent.trim())"""
 FOCUSED = "() => document.activeElement.id || document.activeElement.textContent"
-TABS = """() => [...document.querySelectorAll('[role=tab]')].map((tab) => [tab.id,
-    tab.ariaSelected, tab.tabIndex, document.getElementById(tab.getAttribute('aria-controls')).hidden])"""
-MARKED = "() => [...document.querySelectorAll('#source .chosen')].map((it) => it.textContent).join('')"
+TABS = """() => [...document.querySelectorAll('[role=tab]')].map((tab) => [
+    tab.id, tab.ariaSelected, tab.tabIndex,
+    document.getElementById(tab.getAttribute('aria-controls')).hidden])"""
+MARKED = """() => [...document.querySelectorAll('#source .chosen')]
+    .map((it) => it.textContent).join('')"""
 SET = """(text) => { document.querySelector('#source .CodeMirror').CodeMirror.setValue(text); }"""
 PAPER = "() => getComputedStyle(document.body).backgroundColor"
 NAMES = ("formatted", "canonical", "minified", "tree", "tokens")
@@ -39,7 +43,7 @@ def expect(page, what, wanted, script, *args):
         found = page.run(script, *args)
         if found == wanted:
             return
-        if time.monotonic() - started > PATIENCE / 4:
+        if time.monotonic() - started > PATIENCE:
             raise Wrong(f"{what} is {found!r}, and has to be {wanted!r}")
         time.sleep(0.02)
 
@@ -52,18 +56,25 @@ def write(page, text):
     page.type(text)
 
 
+def choose(page, selector, value):
+    """Chooses a value of a list."""
+    page.run("""(selector, value) => {
+        const select = document.querySelector(selector);
+        select.value = value;
+        for (const name of ['input', 'change']) {
+            select.dispatchEvent(new Event(name, { bubbles: true }));
+        }
+    }""", selector, value)
+
+
 def check_examples(page):
     """Each example is formatted as examples/tidied has it."""
     expect(page, "the verdict", "A module of WGSL", VERDICT)
-    names = page.run("() => [...document.querySelectorAll('#example option')].map((it) => it.value)")
+    names = page.run("() => [...document.querySelector('#example').options].map((it) => it.value)")
     if sorted(it for it in names if it) != sorted(it.stem for it in TIDIED.glob("*.wgsl")):
         raise Wrong(f"the examples are {names}")
     for name in filter(None, names):
-        page.run("""(name) => {
-            const select = document.querySelector('#example');
-            select.value = name;
-            select.dispatchEvent(new Event('change'));
-        }""", name)
+        choose(page, "#example", name)
         wanted = (TIDIED / f"{name}.wgsl").read_text()
         expect(page, f"the formatted {name}", wanted, EDITED, "formatted")
 
@@ -73,16 +84,16 @@ def check_typing(page):
     write(page, "const = 1;")
     told = "1:7: unexpected token =, expected identifier"
     expect(page, "the verdict", told, VERDICT)
-    expect(page, "what is underlined", "=", FAULT)
+    expect(page, "what is underlined", "=", UNDERLINED)
     page.keys("Home")
     for _ in "const ":
         page.keys("Right")
     page.type("size ")
     expect(page, "the verdict", "A module of WGSL", VERDICT)
-    expect(page, "what is underlined", "", FAULT)
+    expect(page, "what is underlined", "", UNDERLINED)
     expect(page, "the formatted text", "const size = 1;\n", EDITED, "formatted")
     write(page, "fn f() {")
-    expect(page, "what is underlined", "{", FAULT)
+    expect(page, "what is underlined", "{", UNDERLINED)
     page.click("#to-fault")
     page.keys("Right")
     page.type(" }")
@@ -143,11 +154,11 @@ def check_tree(page):
 def check_keyboard(page):
     """Tabs are chosen by arrow keys, Home and End, and Tab leaves the editor."""
     page.click("#tab-formatted")
-    for key, chosen in [("Right", 1), ("Right", 2), ("Left", 1), ("End", 4), ("Right", 0), ("Left", 4),
-                        ("Home", 0)]:
+    for key, chosen in [("Right", 1), ("Right", 2), ("Left", 1), ("End", 4), ("Right", 0),
+                        ("Left", 4), ("Home", 0)]:
         page.keys(key)
-        wanted = [[f"tab-{name}", str(at == chosen).lower(), 0 if at == chosen else -1, at != chosen]
-                  for at, name in enumerate(NAMES)]
+        wanted = [[f"tab-{name}", "true", 0, False] if at == chosen
+                  else [f"tab-{name}", "false", -1, True] for at, name in enumerate(NAMES)]
         expect(page, f"the tabs after {key}", wanted, TABS)
         expect(page, "what has the focus", f"tab-{NAMES[chosen]}", FOCUSED)
     write(page, "const size = 1;")
@@ -166,11 +177,7 @@ def check_options(page):
     page.click("#formatted [name=width]")
     page.keys("Control", "a")
     page.type("18")
-    page.run("""() => {
-        const select = document.querySelector('[name=indent]');
-        select.value = '2';
-        select.dispatchEvent(new Event('input', { bubbles: true }));
-    }""")
+    choose(page, "#formatted [name=indent]", "2")
     wanted = "fn f() {\n  let length = g(\n    1,\n    2\n  );\n}\n"
     expect(page, "the formatted text of 18 columns", wanted, EDITED, "formatted")
     page.click("#tab-minified")
@@ -187,8 +194,10 @@ def check_link(page, address):
     link = page.run("() => location.href")
     page.open("about:blank")
     page.open(link)
-    expect(page, "the minified text of the link", "fn f(){let length=g(1,2);}", TEXT, "#minified pre")
-    expect(page, "the width of the link", "18", "() => document.querySelector('[name=width]').value")
+    wanted = "fn f(){let length=g(1,2);}"
+    expect(page, "the minified text of the link", wanted, TEXT, "#minified pre")
+    width = "() => document.querySelector('[name=width]').value"
+    expect(page, "the width of the link", "18", width)
     for wrong in ("#text=!", "#text=AAAA", "#tab=none&width=x&indent=7&names=some"):
         page.open("about:blank")
         page.open(address + wrong)
@@ -228,7 +237,7 @@ def check_narrow(page):
 
 def check_long(page):
     """Returns for how many milliseconds typing waited at most, while a long text is read."""
-    shader = (TOP / "examples" / "commented" / "waves.wgsl").read_text()
+    shader = (TOP / "examples" / "commented" / "quads.wgsl").read_text()
     page.run(SET, shader * (LONG // len(shader)))
     page.run("""() => {
         document.querySelector('#source .CodeMirror').CodeMirror.focus();
@@ -264,7 +273,8 @@ def check_page(page, address):
     """Runs all checks; returns for how long typing waited."""
     page.resize(*WIDE)
     page.open(address)
-    for check in (check_examples, check_typing, check_tabs, check_tree, check_keyboard, check_options):
+    for check in (check_examples, check_typing, check_tabs, check_tree, check_keyboard,
+                  check_options):
         check(page)
     check_link(page, address)
     check_colours(page, address)

@@ -33,10 +33,11 @@ const tabs = new Tabs(at('tabs'), (name) => {
 });
 const updates = new Updates(new Engine(), {
   source: () => source.text,
+  lineCount: () => source.lineCount,
   result: () => byName[tabs.chosen],
   options: () => options.calls[tabs.chosen],
   onVerdict: showVerdict,
-  onFailure: (error) => { showVerdict(source.text, null); at('verdict').textContent = error.message; },
+  onFailure: ({ message }) => showVerdict(source.text, { message, place: null }),
 });
 
 function showVerdict(text, fault) {

@@ -3,8 +3,13 @@
 import { KEYWORDS } from './keywords.js';
 
 const keywords = new Set(KEYWORDS);
-const TYPE = /^(?:bool|[iu]32|f(?:16|32)|vec[234][iufh]?|mat[234]x[234][fh]?|array|atomic|ptr|sampler(?:_comparison)?|texture_\w+)$/;
-const NUMBER = /^(?:0[xX][\da-fA-F]*\.?[\da-fA-F]*(?:[pP][+-]?\d+)?|(?:\d+\.?\d*|\.\d+)(?:[eE][+-]?\d+)?)[iufh]?/;
+const TYPES = [
+  'bool', '[iu]32', 'f16', 'f32', 'vec[234][iufh]?', 'mat[234]x[234][fh]?', 'array', 'atomic',
+  'ptr', 'sampler(_comparison)?', 'texture_\\w+',
+];
+const TYPE = new RegExp(`^(${TYPES.join('|')})$`);
+const HEXADECIMAL = /^0[xX][\da-fA-F]*\.?[\da-fA-F]*([pP][+-]?\d+)?[iufh]?/;
+const DECIMAL = /^(\d+\.?\d*|\.\d+)([eE][+-]?\d+)?[iufh]?/;
 
 /** Takes characters up to the end of block comments, which nest, or of the line. */
 function inComment(stream, state) {
@@ -28,7 +33,7 @@ function token(stream, state) {
     return inComment(stream, state);
   }
   if (stream.match(/^@\s*[\p{XID_Start}_][\p{XID_Continue}]*/u)) return 'meta';
-  if (stream.match(NUMBER)) return 'number';
+  if (stream.match(HEXADECIMAL) || stream.match(DECIMAL)) return 'number';
   const [word] = stream.match(/^[\p{XID_Start}_][\p{XID_Continue}]*/u) ?? [];
   if (word === undefined) {
     stream.next();

@@ -38,7 +38,8 @@ export class Options {
       const value = values[field.name] ?? standardOf(field);
       if (field.type === 'checkbox') field.checked = value === 'true';
       else field.value = value;
-      if (field instanceof HTMLSelectElement && field.selectedIndex < 0) field.value = standardOf(field);
+      // a list has no value that is none of its own
+      if (field.selectedIndex < 0) field.value = standardOf(field);
     }
   }
 

@@ -1,6 +1,14 @@
 // The editor of the source, with its fault and what is chosen in a tree or a list marked. All its
 // line breaks are LF.
 
+// Tab leaves the editor, so that whoever has no mouse can
+const KEYS = {
+  Tab: false,
+  'Shift-Tab': false,
+  'Ctrl-/': 'toggleComment',
+  'Cmd-/': 'toggleComment',
+};
+
 export class Source {
   #editor;
   #fault = null;
@@ -15,14 +23,17 @@ export class Source {
       lineNumbers: true,
       matchBrackets: true,
       screenReaderLabel: 'Source',
-      // Tab leaves the editor, so that whoever has no mouse can
-      extraKeys: { Tab: false, 'Shift-Tab': false, 'Ctrl-/': 'toggleComment', 'Cmd-/': 'toggleComment' },
+      extraKeys: KEYS,
     });
     this.#editor.on('change', onChange);
   }
 
   get text() {
     return this.#editor.getValue('\n');
+  }
+
+  get lineCount() {
+    return this.#editor.lineCount();
   }
 
   set text(text) {
@@ -32,7 +43,7 @@ export class Source {
   /** Underlines a fault, or none. */
   showFault(fault) {
     this.#fault?.mark.clear();
-    if (this.#faultLine !== null) this.#editor.removeLineClass(this.#faultLine, 'wrap', 'fault-line');
+    if (this.#faultLine) this.#editor.removeLineClass(this.#faultLine, 'wrap', 'fault-line');
     this.#fault = null;
     this.#faultLine = null;
     if (!fault?.place) return;

@@ -2,8 +2,9 @@
 
 import { bytes, change, count, milliseconds } from './figures.js';
 
-/** Of a minified text no more characters are shown: one line of very many takes long to lay out. */
+/** Of a minified text no more characters and names are shown: a line of very many is slow. */
 const MOST_SHOWN = 20_000;
+const MOST_NAMES = 400;
 
 /** What each text has: where it is shown, its figures, and the button that copies it. */
 class Shown {
@@ -21,7 +22,8 @@ class Shown {
   show(found) {
     this.panel.classList.toggle('is-old', Boolean(found.fault));
     if (found.fault) {
-      this.figures.textContent = this.text === null ? 'No text yet' : 'Of the last source without a fault';
+      const isEmpty = this.text === null;
+      this.figures.textContent = isEmpty ? 'No text yet' : 'Of the last source without a fault';
       return;
     }
     this.text = found.text;
@@ -125,12 +127,15 @@ export class Minified extends Shown {
     const pairs = Object.entries(names);
     this.#names.hidden = pairs.length === 0;
     this.#names.querySelector('summary').textContent = `${count(pairs.length)} new names`;
-    const entries = pairs.map(([old, given]) => {
+    const entries = pairs.slice(0, MOST_NAMES).map(([old, given]) => {
       const entry = document.createElement('div');
       entry.append(element('dt', old), element('dd', given));
       return entry;
     });
     this.#names.querySelector('dl').replaceChildren(...entries);
+    const more = this.#names.querySelector('.note');
+    more.hidden = pairs.length <= MOST_NAMES;
+    more.textContent = `and ${count(pairs.length - MOST_NAMES)} more`;
   }
 
   figure({ time }) {

@@ -5,6 +5,8 @@ import { milliseconds } from './figures.js';
 /** So many rows of a list are added at once. */
 const STEP = 200;
 
+const ROW = '[role="treeitem"]';
+
 export class Tree {
   name = 'tree';
   #panel;
@@ -17,7 +19,7 @@ export class Tree {
     this.#panel = panel;
     this.#place = panel.querySelector('[role="tree"]');
     this.#source = source;
-    this.#place.addEventListener('click', ({ target }) => this.#press(target.closest('[role="treeitem"]')));
+    this.#place.addEventListener('click', ({ target }) => this.#press(target.closest(ROW)));
     this.#place.addEventListener('keydown', (event) => this.#move(event));
   }
 
@@ -34,7 +36,7 @@ export class Tree {
     await this.#open(root);
     const lists = [...this.#place.children].filter((row) => row.ariaLevel === '2');
     for (const row of lists) await this.#open(row);
-    this.#panel.querySelector('.figures').textContent = `Read and copied in ${milliseconds(found.time)}`;
+    this.#panel.querySelector('.figures').textContent = `Read in ${milliseconds(found.time)}`;
   }
 
   #row({ name, kind, text, open, span }, path, depth) {
@@ -110,7 +112,7 @@ export class Tree {
   }
 
   #move(event) {
-    const row = event.target.closest('[role="treeitem"]');
+    const row = event.target.closest(ROW);
     const step = row && this.#steps(row)[event.key];
     if (!step) return;
     event.preventDefault();

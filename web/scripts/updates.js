@@ -1,7 +1,7 @@
 // What is shown follows what is typed: one call of the worker at a time, always of the last text.
 
-/** A long source is read once nothing was typed for a while, as every result of it is long too. */
-const LONG = 200_000;
+/** A source of more lines is read once nothing was typed for a while: its results are long too. */
+const LONG = 5_000;
 const WHILE = 250;
 
 export class Updates {
@@ -12,7 +12,8 @@ export class Updates {
   #asked = false;
   #timer;
 
-  /** `page` has what there is to read: source(), result(), options(), onVerdict(text, fault). */
+  /** `page` has source(), lineCount(), result(), options(), onVerdict(text, fault) and
+   * onFailure(error). */
   constructor(engine, page) {
     this.#engine = engine;
     this.#page = page;
@@ -21,7 +22,7 @@ export class Updates {
 
   request() {
     clearTimeout(this.#timer);
-    this.#timer = setTimeout(() => this.#run(), this.#page.source().length > LONG ? WHILE : 0);
+    this.#timer = setTimeout(() => this.#run(), this.#page.lineCount() > LONG ? WHILE : 0);
   }
 
   async #run() {

@@ -4,7 +4,7 @@ import { readFile } from 'node:fs/promises';
 import path from 'node:path';
 import { ShaderError, transform } from './transform.js';
 
-/** Without esbuild's option `minify` a shader is as it is, unless `options.minify` says otherwise. */
+/** Without esbuild's option `minify` a shader is as it is, unless `options.minify` says more. */
 export default function wgsl(options = {}) {
   return {
     name: 'centrelilac',

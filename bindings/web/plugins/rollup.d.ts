@@ -6,7 +6,11 @@ import type { ShaderOptions } from './plugin.js';
 export interface ShaderPlugin {
   name: string;
   configResolved(config: { isProduction: boolean }): void;
-  transform(this: any, source: string, id: string): Promise<{ code: string; map: { mappings: '' } } | null>;
+  transform(
+    this: any,
+    source: string,
+    id: string,
+  ): Promise<{ code: string; map: { mappings: '' } } | null>;
 }
 
 export default function wgsl(options?: ShaderOptions): ShaderPlugin;

@@ -2,7 +2,7 @@
 
 import { ShaderError, transform } from './transform.js';
 
-/** While files are watched or served a shader is as it is, unless `options.minify` says otherwise. */
+/** While files are watched or served a shader is as it is, unless `options.minify` says more. */
 export default function wgsl(options = {}) {
   let short = null;
   return {

@@ -3,7 +3,7 @@
 import type { WgslError } from 'centrelilac';
 import type { ShaderOptions } from './plugin.js';
 
-/** A fault of a shader in a file. Its message has the file, the place, the line and marks below it. */
+/** A fault of a shader in a file. Its message has the file, the place and the marked line. */
 export class ShaderError extends Error {
   readonly fault: WgslError;
   readonly file: string;
@@ -14,4 +14,7 @@ export class ShaderError extends Error {
 }
 
 /** Returns a module of JavaScript whose default export is the text of a shader. */
-export function transform(source: string, options?: ShaderOptions & { file?: string }): Promise<{ code: string }>;
+export function transform(
+  source: string,
+  options?: ShaderOptions & { file?: string },
+): Promise<{ code: string }>;

@@ -18,10 +18,12 @@ export class ShaderError extends Error {
 }
 
 /**
- * Returns `{ code }`, a module of JavaScript whose default export is the text of a shader: minified,
- * or with `minify: false` as it is. The other options are those of `minify`. Throws `ShaderError`.
+ * Returns `{ code }`, a module of JavaScript whose default export is the text of a shader:
+ * minified, or with `minify: false` as it is. Other options are those of `minify`. Throws
+ * `ShaderError`.
  */
-export async function transform(source, { file = 'shader.wgsl', minify: short = true, ...options } = {}) {
+export async function transform(source, given = {}) {
+  const { file = 'shader.wgsl', minify: short = true, ...options } = given;
   await init();
   try {
     if (!short) check(source);

@@ -3,7 +3,7 @@
 import path from 'node:path';
 import { ShaderError, transform } from './transform.js';
 
-/** In the mode `development` a shader is as it is, unless the loader's option `minify` says otherwise. */
+/** In the mode `development` a shader is as it is, unless the option `minify` says more. */
 export default async function load(source) {
   const file = path.relative(this.rootContext, this.resourcePath);
   const chosen = { minify: this.mode !== 'development', ...this.getOptions(), file };

@@ -2,7 +2,9 @@
 
 import assert from 'node:assert/strict';
 import { spawnSync } from 'node:child_process';
-import { existsSync, mkdtempSync, mkdirSync, readFileSync, rmSync, symlinkSync, writeFileSync } from 'node:fs';
+import {
+  existsSync, mkdtempSync, mkdirSync, readFileSync, rmSync, symlinkSync, writeFileSync,
+} from 'node:fs';
 import { tmpdir } from 'node:os';
 import path from 'node:path';
 import { after, before, describe, test } from 'node:test';
@@ -73,6 +75,36 @@ module.exports = {
   },
 };
 
+// what TypeScript is given, with what it says of it
+const TYPED = `import code from './shader.wgsl';
+import rollup from 'centrelilac/rollup';
+import esbuild from 'centrelilac/esbuild';
+import { transform } from 'centrelilac/transform';
+export const length: number = code.length;
+export const plugins = [rollup({ minify: false, keep: ['shade'] }), esbuild()];
+export const made: Promise<{ code: string }> = transform(code, { names: 'locals', file: 'a.wgsl' });
+`;
+const WRONG = {
+  'export const length: number = code;': 'TS2322',
+  "rollup({ names: 'some' });": 'TS2322',
+  "rollup({ kept: ['shade'] });": /TS2345|TS2353/,
+};
+const TYPES = {
+  compilerOptions: {
+    module: 'nodenext', target: 'es2022', lib: ['es2022', 'dom'], strict: true, noEmit: true,
+    types: ['centrelilac/shader'],
+  },
+  files: ['typed.ts'],
+};
+
+/** What the compiler of TypeScript prints of a file. */
+function compiled(folder, text) {
+  writeFileSync(path.join(folder, 'package.json'), '{ "type": "module" }');
+  writeFileSync(path.join(folder, 'tsconfig.json'), JSON.stringify(TYPES));
+  writeFileSync(path.join(folder, 'typed.ts'), text);
+  return spawnSync('tsc', [], { cwd: folder, encoding: 'utf8' }).stdout;
+}
+
 /** Builds the page with a shader in one of the modes; returns what was printed, and the file. */
 function build(folder, name, mode, shader) {
   const { file, text, words: [program, ...words] } = BUNDLERS[name];
@@ -136,4 +168,26 @@ describe('bundlers', () => {
       });
     }
   }
+
+  const noTypes = existsSync('/usr/bin/tsc') ? false : 'apt-get install node-typescript';
+  test('TypeScript knows shaders and plugins', { skip: noTypes }, () => {
+    const project = path.join(folder, 'typed');
+    mkdirSync(path.join(project, 'node_modules'), { recursive: true });
+    symlinkSync(PACKAGE, path.join(project, 'node_modules', 'centrelilac'));
+    assert.equal(compiled(project, TYPED), '');
+    for (const [line, error] of Object.entries(WRONG)) {
+      assert.match(compiled(project, `${TYPED.replace(/^export.*\n/gm, '')}${line}\n`), new RegExp(error));
+    }
+  });
+
+  test('Vite is told by its configuration whether a shader is minified', async () => {
+    const { default: wgsl } = await import(path.join(PACKAGE, 'plugins', 'rollup.js'));
+    for (const [isProduction, text] of [[true, MINIFIED], [false, SHADER]]) {
+      const plugin = wgsl();
+      plugin.configResolved({ isProduction });
+      const made = await plugin.transform.call({ meta: {} }, SHADER, '/src/shader.wgsl');
+      assert.equal(made.code, `export default ${JSON.stringify(text)};\n`);
+      assert.equal(await plugin.transform.call({ meta: {} }, SHADER, '/src/shader.wgsl?raw'), null);
+    }
+  });
 });
