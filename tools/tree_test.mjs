@@ -4,7 +4,7 @@ import assert from 'node:assert';
 import { createInterface } from 'node:readline';
 import { packed, treeOf } from '../bindings/web/tree.js';
 
-const LINKS = 100_000;
+const LINKS = 20_000;
 const CHANGES = 20;
 
 /** Returns the UTF-16 offset of each byte offset at which a character of a text starts or ends. */
@@ -62,7 +62,7 @@ function at(start, type, fields) {
   return { type, span: { start, end: start + 1 }, ...fields };
 }
 
-/** Long chains and lists take no stack. */
+/** A long chain has each node at its place. */
 function checkLong() {
   let chain = at(0, 'TypeExpression', { ident: 'a', template_args: null });
   for (let link = 1; link < LINKS; link += 1) {
@@ -77,6 +77,26 @@ function checkLong() {
     assert.strictEqual(read.right.span.start, link);
     read = read.left;
     assert.strictEqual(read.span.end, link);
+  }
+}
+
+/** Trees of any depth are read and written. */
+function checkDeep() {
+  const name = { type: 'TypeExpression', ident: 'a', template_args: null };
+  let statement = { type: 'BreakStatement', attributes: [] };
+  let expression = name;
+  for (let level = 1; level < LINKS; level += 1) {
+    const body = { type: 'CompoundStatement', attributes: [], statements: [statement] };
+    const clause = { type: 'IfClause', expression: name, body };
+    const others = { else_if_clauses: [], else_clause: null };
+    statement = at(level, 'IfStatement', { attributes: [], if_clause: clause, ...others });
+    expression = at(level, 'FunctionCall', { ty: name, arguments: [expression, name] });
+  }
+  for (const [kind, tree] of Object.entries({ Statement: statement, Expression: expression })) {
+    const form = packed(tree);
+    const read = treeOf(form, undefined, kind);
+    assert.strictEqual(read.type, tree.type);
+    assert.deepStrictEqual(packed(read), form);
   }
 }
 
@@ -115,6 +135,7 @@ function checkMade() {
 }
 
 checkLong();
+checkDeep();
 checkWrong();
 checkMade();
 for await (const line of createInterface({ input: process.stdin })) {

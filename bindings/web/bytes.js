@@ -7,9 +7,24 @@ export function notPacked(what) {
   return new RangeError(`not a packed form: ${what}`);
 }
 
+/** What is still to be done, so that nothing takes more stack however deep a tree nests. */
+class Steps {
+  #left = [];
+
+  /** Leaves a step for later, before those that were left before it. */
+  later(step) {
+    this.#left.push(step);
+  }
+
+  run() {
+    for (let step = this.#left.pop(); step !== undefined; step = this.#left.pop()) step();
+  }
+}
+
 /** A packed form of which a front is read. */
-export class Reader {
+export class Reader extends Steps {
   constructor(bytes, offsets) {
+    super();
     this.bytes = bytes;
     this.view = new DataView(bytes.buffer, bytes.byteOffset, bytes.byteLength);
     this.offsets = offsets;
@@ -54,8 +69,9 @@ export class Reader {
 }
 
 /** A packed form that is being written. */
-export class Writer {
+export class Writer extends Steps {
   constructor() {
+    super();
     this.use(new Uint8Array(256));
     this.size = 0;
     this.encoder = new TextEncoder();

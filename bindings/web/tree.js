@@ -10,14 +10,16 @@ const NOTHING = numbers.get('nothing');
 
 /** A text. */
 class TextSort {
+  isShort = true;
+
   isThere(value) {
     return typeof value === 'string';
   }
 
-  read(from) {
+  read(from, into, key) {
     const text = from.text();
     if (!this.isThere(text)) throw notPacked(`\`${text}\` is no ${this.name}`);
-    return text;
+    into[key] = text;
   }
 
   write(to, value) {
@@ -40,6 +42,8 @@ class WordSort extends TextSort {
 
 /** Nothing, whatever the node is. */
 class NothingSort {
+  isShort = true;
+
   read(from) {
     if (from.rule() !== NOTHING) throw notPacked('something is where nothing has to be');
   }
@@ -61,9 +65,10 @@ class Place {
     return sorts.get(this.name);
   }
 
-  read(from) {
+  /** Reads what is at the place into an object or an array. */
+  read(from, into, key) {
     const span = this.spanned ? from.span() : undefined;
-    return this.sort.read(from, span);
+    this.sort.read(from, into, key, span);
   }
 
   write(to, value) {
@@ -74,12 +79,25 @@ class Place {
   /** Reads the field of a node, or those of a group. */
   fill(from, node) {
     if (this.field === undefined) this.sort.read(from, node);
-    else node[this.field] = this.read(from);
+    else this.read(from, node, this.field);
   }
 
   /** Writes the field of a node, or those of a group. */
   writeOf(to, node) {
     this.write(to, this.field === undefined ? node : node[this.field]);
+  }
+}
+
+/** Does something at each of some places, one after another, and leaves what may nest for later. */
+function inTurn(steps, places, act, start = 0) {
+  for (let at = start; at < places.length; at += 1) {
+    const place = places[at];
+    if (!place.sort.isShort) {
+      steps.later(() => inTurn(steps, places, act, at + 1));
+      steps.later(() => act(place));
+      return;
+    }
+    act(place);
   }
 }
 
@@ -108,13 +126,19 @@ class Form {
   }
 
   /** Reads the node after the number of the rule, and after what is left of it in a chain. */
-  read(from, span, left) {
+  read(from, into, key, span, left) {
     const node = { type: this.type };
     if (span !== undefined) node.span = span;
     if (this.left !== undefined) node[this.left] = left;
-    for (const place of this.places) place.fill(from, node);
+    into[key] = node;
+    if (this.type === undefined || this.values !== undefined) from.later(() => this.finish(node));
+    inTurn(from, this.places, (place) => place.fill(from, node));
+  }
+
+  /** Gives a node what no place fills. */
+  finish(node) {
     if (this.type === undefined) node.type = this.namedType(node.type);
-    return this.values === undefined ? node : Object.assign(node, this.values);
+    if (this.values !== undefined) Object.assign(node, this.values);
   }
 
   namedType(word) {
@@ -131,7 +155,7 @@ class Form {
   write(to, node) {
     const type = this.words.get(node.type);
     const named = type === undefined ? node : { ...node, type };
-    for (const place of this.places) place.writeOf(to, named);
+    inTurn(to, this.places, (place) => place.writeOf(to, named));
   }
 }
 
@@ -165,32 +189,38 @@ class NodeSort {
     this.linkByType = byType(links);
   }
 
-  read(from, span) {
-    if (this.ruleless !== undefined) return this.ruleless.read(from, span);
+  read(from, into, key, span) {
+    if (this.ruleless !== undefined) return this.ruleless.read(from, into, key, span);
     const rule = from.rule();
-    return rule === this.chain ? this.readChain(from, span) : this.readAfter(from, rule, span);
+    if (rule !== this.chain) return this.readAfter(from, rule, into, key, span);
+    const whole = {};
+    from.later(() => this.readLinks(from, whole, into, key, span));
+    this.readAfter(from, from.rule(), whole, 'node', { start: 0, end: 0 });
   }
 
   /** Reads the node after the number of its first rule. */
-  readAfter(from, rule, span) {
+  readAfter(from, rule, into, key, span) {
     let found = this.byRule.get(rule);
     while (found instanceof Map) found = found.get(from.rule());
     if (found === undefined) throw notPacked(`after rule ${rule} is no ${this.name}`);
-    return found.read(from, span);
+    found.read(from, into, key, span);
   }
 
-  /** Reads what is leftmost in a chain, and each link after the span of what is before it. */
-  readChain(from, span) {
-    let node = this.readAfter(from, from.rule(), { start: 0, end: 0 });
-    for (let rule = from.rule(); rule !== NOTHING; rule = from.rule()) {
-      const form = this.linkByRule.get(rule);
-      if (form === undefined) throw notPacked(`rule ${rule} does not follow ${this.name}`);
-      node.span = from.span();
-      node = form.read(from, { start: 0, end: 0 }, node);
+  /** Reads what follows a node in a chain, each after the span of what is before it. */
+  readLinks(from, whole, into, key, span) {
+    const { node } = whole;
+    const rule = from.rule();
+    if (rule === NOTHING) {
+      if (span === undefined) delete node.span;
+      else node.span = span;
+      into[key] = node;
+      return;
     }
-    if (span === undefined) delete node.span;
-    else node.span = span;
-    return node;
+    const form = this.linkByRule.get(rule);
+    if (form === undefined) throw notPacked(`rule ${rule} does not follow ${this.name}`);
+    node.span = from.span();
+    from.later(() => this.readLinks(from, whole, into, key, span));
+    form.read(from, whole, 'node', { start: 0, end: 0 }, node);
   }
 
   write(to, node) {
@@ -217,13 +247,18 @@ class NodeSort {
       form = linkOf(this.linkByType, first);
     }
     to.rule(this.chain);
+    to.later(() => this.writeLinks(to, links));
     this.writeFirst(to, first);
-    for (const link of links.reverse()) {
-      to.rule(link.form.rule);
-      to.span(link.node[link.form.left]?.span);
-      link.form.write(to, link.node);
-    }
-    to.rule(NOTHING);
+  }
+
+  /** Writes the links that are left of a chain, the next of which is last, and its end. */
+  writeLinks(to, links) {
+    const link = links.pop();
+    if (link === undefined) return to.rule(NOTHING);
+    to.rule(link.form.rule);
+    to.span(link.node[link.form.left]?.span);
+    to.later(() => this.writeLinks(to, links));
+    link.form.write(to, link.node);
   }
 }
 
@@ -266,40 +301,46 @@ class ListSort {
     this.more = new Set([this.roles.get('before'), this.roles.get('first')]);
   }
 
-  read(from) {
-    const items = [];
-    for (;;) {
-      const rule = from.rule();
-      if (rule === this.roles.get('void')) {
-        items.push({ type: this.empty, span: from.span() });
-      } else if (this.more.has(rule)) {
-        items.push(this.item.read(from));
-      } else if (rule === this.roles.get('last')) {
-        items.push(this.item.read(from));
-        return items;
-      } else if (this.ends.has(rule)) {
-        return items;
-      } else {
-        throw notPacked(`rule ${rule} is in no ${this.name}`);
-      }
+  read(from, into, key) {
+    into[key] = [];
+    this.readItems(from, into[key]);
+  }
+
+  /** Reads the items that are left. */
+  readItems(from, items) {
+    const rule = from.rule();
+    if (this.ends.has(rule)) return;
+    const isLast = rule === this.roles.get('last');
+    if (!isLast) from.later(() => this.readItems(from, items));
+    if (rule === this.roles.get('void')) {
+      items.push({ type: this.empty, span: from.span() });
+    } else if (isLast || this.more.has(rule)) {
+      this.item.read(from, items, items.length);
+    } else {
+      throw notPacked(`rule ${rule} is in no ${this.name}`);
     }
   }
 
   write(to, items) {
     if (!Array.isArray(items)) throw new TypeError(`${items} is no ${this.name}`);
-    let printed = 0;
-    items.forEach((item, index) => {
-      if (this.empty !== undefined && item?.type === this.empty) {
-        to.rule(this.roles.get('void'));
-        to.span(item.span);
-      } else {
-        to.rule(this.ruleOf(printed, index === items.length - 1));
-        this.item.write(to, item);
-        printed += 1;
-      }
-    });
-    if (printed === 0) to.rule(this.roles.get('none'));
-    else if (this.roles.has('end')) to.rule(this.roles.get('end'));
+    this.writeItems(to, items, 0, 0);
+  }
+
+  /** Writes the items from one on, after so many that are printed, and the end. */
+  writeItems(to, items, at, printed) {
+    const item = items[at];
+    if (at === items.length) {
+      if (printed === 0) to.rule(this.roles.get('none'));
+      else if (this.roles.has('end')) to.rule(this.roles.get('end'));
+    } else if (this.empty !== undefined && item?.type === this.empty) {
+      to.later(() => this.writeItems(to, items, at + 1, printed));
+      to.rule(this.roles.get('void'));
+      to.span(item.span);
+    } else {
+      to.later(() => this.writeItems(to, items, at + 1, printed + 1));
+      to.rule(this.ruleOf(printed, at === items.length - 1));
+      this.item.write(to, item);
+    }
   }
 
   /** Returns the rule of an item after so many that are printed. */
@@ -323,8 +364,9 @@ class OptionSort {
     this.rule = numbers.get(rule);
   }
 
-  read(from) {
-    return has(from, this.rule) ? this.there.read(from) : null;
+  read(from, into, key) {
+    if (has(from, this.rule)) this.there.read(from, into, key);
+    else into[key] = null;
   }
 
   write(to, value) {
@@ -343,11 +385,8 @@ class GroupSort {
 
   /** Reads the fields of a node. */
   read(from, node) {
-    const isThere = has(from, this.rule);
-    for (const place of this.places) {
-      if (isThere) place.fill(from, node);
-      else node[place.field] = place.sort instanceof ListSort ? [] : null;
-    }
+    if (has(from, this.rule)) return inTurn(from, this.places, (place) => place.fill(from, node));
+    for (const place of this.places) node[place.field] = place.sort instanceof ListSort ? [] : null;
   }
 
   /** Writes the fields of a node; where one that has to be there is not, none. */
@@ -359,7 +398,7 @@ class GroupSort {
       return to.rule(NOTHING);
     }
     to.rule(this.rule);
-    for (const place of this.places) place.writeOf(to, node);
+    inTurn(to, this.places, (place) => place.writeOf(to, node));
   }
 }
 
@@ -392,9 +431,11 @@ export function treeOf(bytes, offsets, kind = 'TranslationUnit') {
   const sort = sorts.get(kind);
   if (!(sort instanceof NodeSort)) throw new TypeError(`${kind} is no kind of trees`);
   const from = new Reader(bytes, offsets);
-  const tree = sort.read(from);
+  const whole = {};
+  sort.read(from, whole, 'tree');
+  from.run();
   if (from.at !== bytes.length) throw notPacked('more follows it');
-  return tree;
+  return whole.tree;
 }
 
 /** Returns the packed form of a node. A span that is not there is 0 to 0. */
@@ -403,5 +444,6 @@ export function packed(node) {
   if (sort === undefined) throw new TypeError(`${node?.type ?? node} is no node`);
   const to = new Writer();
   sort.write(to, node);
+  to.run();
   return to.bytes.slice(0, to.size);
 }
