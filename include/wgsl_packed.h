@@ -342,10 +342,10 @@ enum wgsl_field {
 /* How many rules there are, written by tools/tables/packed_header.py. */
 #define WGSL_RULES 95
 
-/* How many parts after which others follow may be open in each other. What nests deeper is not read
- * as a packed form. A level of WGSL has two or three. */
+/* How many parts after which others follow may be open in each other, each of which takes two bytes
+ * of stack. What nests deeper is not read as a packed form. A level of WGSL has at most three. */
 #ifndef WGSL_OPEN_PARTS
-#define WGSL_OPEN_PARTS 4096
+#define WGSL_OPEN_PARTS 2000
 #endif
 
 /* Whether a part or an item is there: it is; it is not, after the last one; or the bytes are not a
@@ -451,44 +451,48 @@ static inline int wgsl_take_span(struct wgsl_node *left, struct wgsl_part *part)
     return wgsl_take_number(left, &part->start) && wgsl_take_number(left, &part->end);
 }
 
-/* Takes a node of which the bytes are not known to end, and returns whether there is one. The last
- * part of each node is not counted as open. */
+/* Takes a text or a span, and returns whether there is one. */
+static inline int wgsl_take_short(struct wgsl_node *left, char place, struct wgsl_part *part) {
+    return place == '#' ? wgsl_take_text(left, part) : wgsl_take_span(left, part);
+}
+
+/* Takes a node whose end is not known, and returns whether there is one. Of each node that is open,
+ * the rule is kept with the place of it that is next, unless that was the last. */
 static inline int wgsl_take_node(struct wgsl_node *left, struct wgsl_node *node) {
-    const char *open[WGSL_OPEN_PARTS], *places = "$";
-    size_t count = 0, rule;
+    uint16_t open[WGSL_OPEN_PARTS];
+    const char *places = "$";
+    size_t count = 0, rule = 0, at = 0;
     struct wgsl_part part;
-    node->bytes = left->bytes;
-    node->size = left->size;
-    for (;;) {
-        char place = *places;
+    *node = *left;
+    while (places[at] != '\0' || count > 0) {
+        char place = places[at++];
         if (place == '\0') {
-            if (count == 0) {
-                node->size -= left->size;
-                return 1;
-            }
-            places = open[--count];
-            continue;
-        }
-        places++;
-        if (place == '#' || place == '%') {
-            if (!(place == '#' ? wgsl_take_text(left, &part) : wgsl_take_span(left, &part))) {
+            count--;
+            rule = open[count] >> 3;
+            at = open[count] & 7;
+            places = wgsl_places_of(rule);
+        } else if (place != '$') {
+            if (!wgsl_take_short(left, place, &part)) {
                 return 0;
             }
-            continue;
-        }
-        if (*places != '\0') {
-            if (count == WGSL_OPEN_PARTS) {
+        } else {
+            if (places[at] != '\0') {
+                if (count == WGSL_OPEN_PARTS) {
+                    return 0;
+                }
+                open[count++] = (uint16_t)(rule << 3 | at);
+            }
+            rule = wgsl_rule_of(*left);
+            if (rule == WGSL_RULES) {
                 return 0;
             }
-            open[count++] = places;
+            places = wgsl_places_of(rule);
+            at = 0;
+            wgsl_take(left, 1);
         }
-        rule = wgsl_rule_of(*left);
-        if (rule == WGSL_RULES) {
-            return 0;
-        }
-        places = wgsl_places_of(rule);
-        wgsl_take(left, 1);
     }
+    node->size -= left->size;
+    return 1;
 }
 
 /* Returns the parts of a node. */
@@ -520,10 +524,8 @@ static inline int wgsl_next_part(struct wgsl_parts *parts, struct wgsl_part *par
         return WGSL_IS_END;
     }
     part->place = *parts->places++;
-    if (part->place == '#') {
-        is_there = wgsl_take_text(&parts->left, part);
-    } else if (part->place == '%') {
-        is_there = wgsl_take_span(&parts->left, part);
+    if (part->place != '$') {
+        is_there = wgsl_take_short(&parts->left, part->place, part);
     } else if (*parts->places == '\0') {
         part->node = parts->left;
         is_there = wgsl_rule_of(part->node) != WGSL_RULES;

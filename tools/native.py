@@ -40,7 +40,7 @@ class Library:
 
     def call(self, name, text, item=1, before=()):
         """Makes a call that writes items of this many bytes, into a buffer that is large enough."""
-        made, size = getattr(self.library, f"wgsl_c_{name}"), 1024
+        made, size = getattr(self.library, f"wgsl_c_{name}"), 2 * len(text) + 1024
         made.restype = c_uint32
         given = ctypes.create_string_buffer(text, max(1, len(text)))
         while True:
@@ -60,7 +60,10 @@ class Library:
     def tidy(self, text, layout):
         return self.call("tidy", text, before=[byref(Layout(*layout))])
 
-    def minify(self, text, names, keep=b""):
+    def minify(self, text, names):
         """A minified text, and the JSON of its new names."""
-        kept = ctypes.create_string_buffer(keep, max(1, len(keep)))
-        return self.call("minify", text, before=[c_uint32(names), kept, c_size_t(len(keep))])
+        kept = ctypes.create_string_buffer(1)
+        return self.call("minify", text, before=[c_uint32(names), kept, c_size_t(0)])
+
+    def packed_tree(self, text, kind):
+        return self.call("packed_tree", text, before=[c_uint32(kind)])

@@ -3,7 +3,6 @@ JSON value a text, which bindings/web/test/compare.js compares with what it retu
 import hashlib
 import json
 import struct
-from ctypes import c_uint32
 
 from native import DONE, REFUSED
 
@@ -13,6 +12,7 @@ KINDS = {1: "InvalidToken", 2: "ReservedWord", 3: "UnexpectedToken", 4: "Unexpec
 # the layouts that texts are formatted by, and the names that get new ones
 LAYOUTS = [(100, 4, 0, 0), (40, 2, 0, 1), (0, 4, 1, 2)]
 NAMES = {"none": 0, "locals": 1, "all": 2}
+UNIT = 0
 TOKEN, PLACE = struct.Struct("<3Q"), struct.Struct("<2Q")
 
 
@@ -81,7 +81,7 @@ def minified(said):
 def tree(library, source, places):
     """The sum of the packed form of a module, whose spans are those of the package in ASCII alone,
     and what is printed of it."""
-    said = library.call("packed_tree", source, before=[c_uint32(0)])
+    said = library.packed_tree(source, UNIT)
 
     def value(said):
         printed = text(library.call("print", said.written))

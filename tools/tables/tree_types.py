@@ -30,8 +30,8 @@ HEAD = """\
 
 /** Where a node starts and ends: in bytes, or in what the offsets are that `treeOf` was given. */
 export interface Span {
-    start: number;
-    end: number;
+  start: number;
+  end: number;
 }
 
 /** A node with its span. */
@@ -39,12 +39,12 @@ export type Spanned<T> = T & { span: Span };
 
 /** A node of which spans need not be there. */
 export type Unspanned<T> = T extends (infer Item)[]
-    ? Unspanned<Item>[]
-    : T extends object
-      ? { [Field in keyof T as Field extends 'span' ? never : Field]: Unspanned<T[Field]> } & {
-            span?: Span;
-        }
-      : T;
+  ? Unspanned<Item>[]
+  : T extends object
+    ? { [Field in keyof T as Field extends 'span' ? never : Field]: Unspanned<T[Field]> } & {
+        span?: Span;
+      }
+    : T;
 """
 
 CALLS = """\
@@ -59,9 +59,9 @@ export interface Kinds {{
  */
 export function treeOf(bytes: Uint8Array, offsets?: ArrayLike<number> | null): TranslationUnit;
 export function treeOf<Kind extends keyof Kinds>(
-    bytes: Uint8Array,
-    offsets: ArrayLike<number> | null | undefined,
-    kind: Kind,
+  bytes: Uint8Array,
+  offsets: ArrayLike<number> | null | undefined,
+  kind: Kind,
 ): Kinds[Kind];
 
 /**
@@ -95,9 +95,9 @@ class Types:
     def interface(self, name, doc, fields):
         """A node with its fields, each with its type and what it is."""
         self.nodes.append(name)
-        body = [f"    type: '{name}';"]
+        body = [f"  type: '{name}';"]
         for field, held, what in fields:
-            body += [f"    /** {what} */", f"    {field}: {self.held(held)};"]
+            body += [f"  /** {what} */", f"  {field}: {self.held(held)};"]
         return "\n".join([f"/** {doc} */", f"export interface {name} {{", *body, "}"])
 
     def struct(self, kind):
@@ -136,7 +136,7 @@ class Types:
         """The file."""
         made = [it for kind in self.table.kinds for it in getattr(self, kind.form)(kind)]
         made.append(f"/** A node of any type. */\n{union('Node', self.nodes)}")
-        calls = CALLS.format(kinds="\n".join(f"    {it}: {it};" for it in KINDS))
+        calls = CALLS.format(kinds="\n".join(f"  {it}: {it};" for it in KINDS))
         return "\n".join([HEAD, "\n\n".join(made), "", calls])
 
 
@@ -145,7 +145,7 @@ def union(name, types):
     line = f"export type {name} = {' | '.join(types)};"
     if len(line) <= 100:
         return line
-    return "\n".join([f"export type {name} =", *(f"    | {it}" for it in types)]) + ";"
+    return "\n".join([f"export type {name} =", *(f"  | {it}" for it in types)]) + ";"
 
 
 def main():
