@@ -14,7 +14,6 @@ from pathlib import Path
 
 from node_table import TABLE, Table, check, snake
 
-DOCUMENT = Path("docs/TREE.md")
 RUST = Path("bindings/rust/src")
 KINDS = Path("tools/library_kinds.c")
 TEXT = Path("bindings/rust/tests/every_kind.wgsl")
@@ -35,26 +34,6 @@ def fill(path, begin, text, end):
     old = path.read_text()
     at = old.index(begin) + len(begin)
     path.write_text(old[:at] + text + old[old.index(end, at):])
-
-
-def listed(heading, kinds, shown):
-    """A section of a document with the parts of each kind, as they are shown."""
-    lines = [f"### {heading}", ""]
-    for kind in kinds:
-        parts = [f"`{shown(*part)}`" for part in kind.parts]
-        lines.append(f"- `{kind.name}`: {(' ' if kind.form == 'words' else ', ').join(parts)}")
-    return "\n".join([*lines, "", ""])
-
-
-def document(table):
-    """The lists of the document."""
-    def field(name, held):
-        return "attributes" if name == "attributes" else table.field(name, held)
-
-    return ("\n\n"
-            + listed("Enums and their variants", table.of_form("enum"), table.variant)
-            + listed("Structs and their fields", table.of_form("struct"), field)
-            + listed("Enums of words", table.of_form("words"), lambda name, word: word))
 
 
 def field_doc(table, kind, name, held):
@@ -254,36 +233,23 @@ def write_text(table):
     fill(TEXT, f"// Examples of the variants, {WRITTEN}\n", "\n".join(lines), "\n// What they lack")
 
 
-def write_variants(table):
-    """The variants of each enum, for C, as the text form has them between quotes: a name that enums
-    share, with what follows it where that differs."""
-    def follows(held):
-        kind = table.by_name.get(held)
-        if kind and (kind.is_spanned or kind.form == "struct"):
-            return f'\\":{{\\"{"span" if kind.is_spanned else kind.parts[0][0]}'
-        return '\\":' if held else ""
-
-    starts = {}
-    for kind in table.of_form("enum"):
-        for name, held in kind.parts:
-            starts.setdefault(name, set()).add(follows(held))
-    text = ""
-    for kind in table.of_form("enum"):
-        names = [f'"{name}{follows(held) if len(starts[name]) > 1 else ""}"' for name, held in kind.parts]
-        names = textwrap.fill(", ".join(names), 92, break_long_words=False, break_on_hyphens=False)
-        text += f'    {{"{kind.name}",\n     {{' + names.replace("\n", "\n      ") + "}},\n"
-    fill(KINDS, "\nstatic const struct kinds enums[] = {\n", text, "};\n")
+def write_words(table):
+    """The words of the attributes with an expression, and of those that are a name, for C."""
+    words = table.attribute_words()
+    names = [f'"\\"{words[name]}\\""' for name, held in table.by_name["Attribute"].parts
+             if held in ("Expression", "")]
+    names = textwrap.fill(", ".join(names), 96, break_long_words=False, break_on_hyphens=False)
+    text = "    " + names.replace("\n", "\n    ") + ",\n"
+    fill(KINDS, "\nstatic const char *const words[] = {\n", text, "};\n")
 
 
 def main():
     table = Table()
     check(table)
-    fill(DOCUMENT, f"<!-- The lists are {WRITTEN} -->", document(table),
-         "<!-- The end of the lists. -->")
     write_rust(table)
     write_packed(table)
     write_text(table)
-    write_variants(table)
+    write_words(table)
 
 
 if __name__ == "__main__":

@@ -1,5 +1,5 @@
 -- Written by tools/tables/packed_rules.py from crates/wgsl_model_packed/rules: the JSON of the rules.
-use Rattle.std.specs.Prelude.{ℕ, List, [], ◌∷◌, codes}
+use Rattle.std.specs.Prelude.{ℕ, List, [], ◌∷◌, ◌++◌, codes}
 
 -- the JSON of each rule, by its number
 abbrev pub json_rules : List (List ℕ)
@@ -50,7 +50,8 @@ json_rules =
     codes "{\"Declaration\":{\"attributes\":[$],\"kind\":$,\"ident\":\"#\",\"ty\":?,\"initializer\":?}}" ∷
     codes "$" ∷
     codes "{\"span\":%,\"node\":$}" ∷
-    codes "{\"Assignment\":{\"attributes\":[$],\"lhs\":{\"span\":%,\"node\":$},\"operator\":\"#\",\"rhs\":{\"span\":%,\"node\":$}}}" ∷
+    (codes "{\"Assignment\":{\"attributes\":[$],\"lhs\":{\"span\":%"
+    ++ codes ",\"node\":$},\"operator\":\"#\",\"rhs\":{\"span\":%,\"node\":$}}}") ∷
     codes "{\"Increment\":{\"attributes\":[$],\"expression\":{\"span\":%,\"node\":$}}}" ∷
     codes "{\"Decrement\":{\"attributes\":[$],\"expression\":{\"span\":%,\"node\":$}}}" ∷
     codes "{\"Break\":{\"attributes\":[$]}}" ∷
@@ -77,7 +78,8 @@ json_rules =
     codes "{\"attributes\":[$],\"body\":$}" ∷
     codes "$" ∷
     codes "$&" ∷
-    codes "{\"Switch\":{\"attributes\":[$],\"expression\":{\"span\":%,\"node\":$},\"body_attributes\":[$],\"clauses\":[$]}}" ∷
+    (codes "{\"Switch\":{\"attributes\":[$]"
+    ++ codes ",\"expression\":{\"span\":%,\"node\":$},\"body_attributes\":[$],\"clauses\":[$]}}") ∷
     codes "{\"attributes\":[$],\"case_selectors\":[$],\"body\":$}" ∷
     codes "{\"Loop\":{\"attributes\":[$],\"body\":$,\"continuing\":?}}" ∷
     codes "$" ∷
