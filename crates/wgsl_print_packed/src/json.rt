@@ -22,7 +22,7 @@ pub(crate) fn write_span(start: u64, end: u64, out: &mut Vec<u8>) -> Result<(), 
 }
 
 /// Writes a text with the escapes of JSON.
-pub fn write_escaped(text: &[u8], out: &mut Vec<u8>) -> Result<(), AllocError>
+pub(crate) fn write_escaped(text: &[u8], out: &mut Vec<u8>) -> Result<(), AllocError>
     ensures { OnOk result (out.new.items ≡ out.old.items ++ escaped text.now) }
 {
     let mut left = text;

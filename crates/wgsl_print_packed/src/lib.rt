@@ -16,7 +16,6 @@ ghost use Rattle.wgsl_print_packed.specs.declared.error.PackedError.TheVariants 
 
 use crate::printer::Printer;
 pub use error::PackedError;
-pub use json::write_escaped;
 pub use notation::Notation;
 use std::alloc::Global;
 
