@@ -14,6 +14,7 @@ from pathlib import Path
 
 from node_table import TABLE, Table, check, snake
 
+DOCUMENT = Path("docs/TREE.md")
 RUST = Path("bindings/rust/src")
 KINDS = Path("tools/library_kinds.c")
 TEXT = Path("bindings/rust/tests/every_kind.wgsl")
@@ -34,6 +35,26 @@ def fill(path, begin, text, end):
     old = path.read_text()
     at = old.index(begin) + len(begin)
     path.write_text(old[:at] + text + old[old.index(end, at):])
+
+
+def listed(heading, kinds, shown):
+    """A section of a document with the parts of each kind, as they are shown."""
+    lines = [f"### {heading}", ""]
+    for kind in kinds:
+        parts = [f"`{shown(*part)}`" for part in kind.parts]
+        lines.append(f"- `{kind.name}`: {(' ' if kind.form == 'words' else ', ').join(parts)}")
+    return "\n".join([*lines, "", ""])
+
+
+def document(table):
+    """The lists of the document."""
+    def field(name, held):
+        return "attributes" if name == "attributes" else table.field(name, held)
+
+    return ("\n\n"
+            + listed("Enums and their variants", table.of_form("enum"), table.variant)
+            + listed("Structs and their fields", table.of_form("struct"), field)
+            + listed("Enums of words", table.of_form("words"), lambda name, word: word))
 
 
 def field_doc(table, kind, name, held):
@@ -246,6 +267,8 @@ def write_words(table):
 def main():
     table = Table()
     check(table)
+    fill(DOCUMENT, f"<!-- The lists are {WRITTEN} -->", document(table),
+         "<!-- The end of the lists. -->")
     write_rust(table)
     write_packed(table)
     write_text(table)
