@@ -237,7 +237,10 @@ impl<'v> Part<'v> {
     /// Whether this is the JSON of the node.
     fn is(self, form: &Value) -> bool {
         match (chain_in(self.form), chain_in(form)) {
-            (Some(items), Some(others)) => items.get(..=self.links) == Some(others.as_slice()),
+            (Some(items), Some(others)) => {
+                let mut pairs = items.iter().zip(others.iter());
+                others.len() == self.links + 1 && pairs.all(|(item, other)| *item == *other)
+            }
             _ => *form == *self.form,
         }
     }
