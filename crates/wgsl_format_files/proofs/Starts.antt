@@ -1,5 +1,5 @@
 -- What the program does with its arguments.
-use Rattle.std.proofs.Common.{◌≡◌, ◌⊎◌, inl, inr, sym, subst, ℕ, List, Option, Result, Ok}
+use Rattle.std.proofs.Common.{◌≡◌, inl, inr, ℕ, List, Option, Result, Ok}
 use Rattle.clap.specs.Words.{Kinds}
 use Rattle.wgsl_files.specs.Files.{Files}
 use Rattle.wgsl_format_options.specs.Options.{Options, Source}

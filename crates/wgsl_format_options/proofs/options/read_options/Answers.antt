@@ -1,4 +1,4 @@
-use Rattle.std.proofs.Common.{rules, ◌≡◌, ◌∙◌, ap, inl, inr, refl, sym, Bor, [], ◌∷◌, Option, Ok, Err, List, Some, map, string_bytes, codes, ℕ, Result}
+use Rattle.std.proofs.Common.{◌∙◌, ap, inl, inr, refl, sym, ℕ, List, [], ◌∷◌, Option, Bor, map, string_bytes, codes}
 use Rattle.std.proofs.lemmas.Result.{err_from_is_err_and}
 use Rattle.std.specs.Option.{unwrap_or}
 use Rattle.std.specs.Result.{result_ok}
@@ -6,8 +6,7 @@ use Rattle.clap.proofs.WalkLemmas.{first_value-rows, raw_values-rows}
 use Rattle.clap.specs.Walk.{texts}
 use Rattle.clap.specs.Words.{App, app_of, fault_of, found_of, matches_of, rows_of, is_simple, is_simple_and_free}
 use Rattle.clap.specs.declared.error.kind.ErrorKind.TheVariants.{InvalidValue}
-use Rattle.wgsl_choices.specs.declared.Choices.{Choices}
-use Rattle.wgsl_format_options.specs.Options.{asked_with, chosen_by, is_given, source_of}
+use Rattle.wgsl_format_options.specs.Options.{asked_with, is_given, source_of}
 use Rattle.wgsl_format_options.proofs.Asked.{is_plain, is_free, gives_error, asked_options, asked_rows, chosen_rows, mode_rows, texts_or_none}
 use Rattle.wgsl_format_options.proofs.options.read_options.Goals as goal
 

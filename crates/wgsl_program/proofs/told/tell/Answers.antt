@@ -5,7 +5,7 @@ use Rattle.wgsl_program.proofs.told.tell.Goals as goal
 
 pub returns-then-is_memory : goal.returns-then-is_memory
 returns-then-is_memory g c = λ files left.
-    inr (record { says = c.say-then-is_memory.ensures; output = refl; files = refl; left = refl })
+    inr (record { says = c.say.ensures; output = refl; files = refl; left = refl })
 
 pub returns-in_default : goal.returns-in_default
 returns-in_default g c = λ files left.
