@@ -79,7 +79,7 @@ static int check_print_arguments(void) {
 }
 
 static uint32_t pack(uint32_t kind, const char *text, uint8_t *form, size_t form_size) {
-    return wgsl_c_packed_tree(kind, (const uint8_t *)text, strlen(text), form, form_size, &answer);
+    return wgsl_packed_tree(kind, text, strlen(text), form, form_size, &answer);
 }
 
 /* A tree has the packed form that its definition gives it, which is printed as the tree is; other
@@ -117,6 +117,11 @@ static int check_packed(void) {
     CHECK(pack(UINT32_MAX, "@a", form, sizeof form) == WGSL_UNKNOWN && is_size(0));
     CHECK(pack(WGSL_UNIT, "\xff", form, sizeof form) == WGSL_NOT_UTF8);
     CHECK(pack(UINT32_MAX, "\xff", form, sizeof form) == WGSL_NOT_UTF8 && is_size(0));
+    CHECK(pack(WGSL_EXPRESSION, "a.b", NULL, 0) == WGSL_TOO_SMALL && is_size(sizeof named));
+    CHECK(pack(WGSL_EXPRESSION, "a.b", NULL, 1) == WGSL_BAD_ARGUMENT);
+    CHECK(pack(WGSL_EXPRESSION, "a.b", form, SIZE_MAX) == WGSL_BAD_ARGUMENT);
+    CHECK(wgsl_packed_tree(WGSL_UNIT, NULL, 1, form, 1, &answer) == WGSL_BAD_ARGUMENT);
+    CHECK(wgsl_packed_tree(WGSL_UNIT, "", 0, form, sizeof form, NULL) == WGSL_BAD_ARGUMENT);
     return 0;
 }
 

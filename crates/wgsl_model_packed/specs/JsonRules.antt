@@ -1,4 +1,5 @@
--- Written by tools/tables/packed_rules.py from crates/wgsl_model_packed/rules: the JSON of the rules.
+-- Written by tools/tables/packed_rules.py from crates/wgsl_model_packed/rules: the JSON of the
+-- rules.
 use Rattle.std.specs.Prelude.{ℕ, List, [], ◌∷◌, ◌++◌, codes}
 
 -- the JSON of each rule, by its number
