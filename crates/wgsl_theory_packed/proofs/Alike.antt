@@ -55,10 +55,10 @@ holes_append : (one two : List ℕ) → holes (one ++ two) ≡ holes one ++ hole
 holes_append [] two = refl
 holes_append (b ∷ one) two = elim (eqb_tells (kind b) 0) [
   | inl none ↦ skipped b (one ++ two) none.1 ∙ holes_append one two
-    ∙ ap (λ (z : List ℕ). z ++ holes two) (sym (skipped b one none.1))
+      ∙ ap (λ (z : List ℕ). z ++ holes two) (sym (skipped b one none.1))
   | inr some ↦ ap (λ (t : Bool). if t then holes (one ++ two) else kind b ∷ holes (one ++ two)) some.0
-    ∙ ap (λ (z : List ℕ). kind b ∷ z) (holes_append one two)
-    ∙ ap (λ (t : Bool). (if t then holes one else kind b ∷ holes one) ++ holes two) (sym some.0)
+      ∙ ap (λ (z : List ℕ). kind b ∷ z) (holes_append one two)
+      ∙ ap (λ (t : Bool). (if t then holes one else kind b ∷ holes one) ++ holes two) (sym some.0)
 ]
 
 flat_append : (one two : List ℕ) → list_all is_flat one ≡ true → list_all is_flat two ≡ true
@@ -147,11 +147,11 @@ at_hole d h form left hs fill (b ∷ places) e flat =
     let both = and_parts (is_flat b) (list_all is_flat places) flat in
     elim (eqb_tells (kind b) 0) [
       | inl none ↦
-        let more = at_hole d h form left hs fill places (sym (skipped b places none.1) ∙ e) both.1 in
-        record { printed = b ∷ more.printed; prints = plain (is_plain_of b both.0 none.1) more.prints }
+          let more = at_hole d h form left hs fill places (sym (skipped b places none.1) ∙ e) both.1 in
+          record { printed = b ∷ more.printed; prints = plain (is_plain_of b both.0 none.1) more.prints }
       | inr some ↦
-        let cut = sym (ap (λ (t : Bool). if t then holes places else kind b ∷ holes places) some.0) ∙ e in
-        fill b places (ap head_of cut) (ap tail_of cut) both.1
+          let cut = sym (ap (λ (t : Bool). if t then holes places else kind b ∷ holes places) some.0) ∙ e in
+          fill b places (ap head_of cut) (ap tail_of cut) both.1
     ]
 
 -- what has no places is printed as it is
@@ -161,12 +161,12 @@ all_plain d form (b ∷ places) e flat =
     let both = and_parts (is_flat b) (list_all is_flat places) flat in
     elim (eqb_tells (kind b) 0) [
       | inl none ↦
-        let more = all_plain d form places (sym (skipped b places none.1) ∙ e) both.1 in
-        record { printed = b ∷ more.printed; prints = plain (is_plain_of b both.0 none.1) more.prints }
+          let more = all_plain d form places (sym (skipped b places none.1) ∙ e) both.1 in
+          record { printed = b ∷ more.printed; prints = plain (is_plain_of b both.0 none.1) more.prints }
       | inr some ↦
-        let cut : kind b ∷ holes places ≡ [] =
-        sym (ap (λ (t : Bool). if t then holes places else kind b ∷ holes places) some.0) ∙ e in
-        absurd (cc)
+          let cut : kind b ∷ holes places ≡ [] =
+          sym (ap (λ (t : Bool). if t then holes places else kind b ∷ holes places) some.0) ∙ e in
+          absurd (cc)
     ]
 
 -- what fills places of WGSL fills the same places of JSON
