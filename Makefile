@@ -7,12 +7,14 @@ headers = $(DESTDIR)$(PREFIX)/include
 libraries = $(DESTDIR)$(PREFIX)/lib
 included = wgsl.h wgsl_packed.h wgsl_packed.json
 
-.PHONY: help demo build lib tables test prove mutants programs install uninstall dist clean
+.PHONY: help demo build lib web tables test prove mutants programs install uninstall dist clean
 
 help:
 	@echo "make demo       formats a shader with wgsltidy, and prints it with wgslfmt, without proofs"
 	@echo "make build      proves the three programs and what they depend on, and puts them into build/"
-	@echo "make lib        proves the library for C and Rust, build/libwgsl.a"
+	@echo "make lib        proves the library for C and Rust, build/libwgsl.a; with ARCH=aarch64"
+	@echo "                build/aarch64/libwgsl.a"
+	@echo "make web        makes the npm package build/web of that library, as WebAssembly"
 	@echo "make install    installs the programs, their man pages, and the library if it is built, below"
 	@echo "                PREFIX, which is $(PREFIX)"
 	@echo "make uninstall  removes them"
@@ -34,7 +36,10 @@ build:
 	@tools/build
 
 lib:
-	@tools/build lib
+	@tools/build lib $(ARCH)
+
+web:
+	@tools/web
 
 tables:
 	@tools/make_tables

@@ -20,6 +20,8 @@ MODEL = Path("crates/wgsl_model/specs/Tokens")
 CRATE = Path("crates/wgsl_lex_token")
 RUST_KINDS = Path("bindings/rust/src/kind.rs")
 HEADER = Path("include/wgsl.h")
+SCRIPT_KINDS = Path("bindings/web/kinds.js")
+SCRIPT_TYPES = Path("bindings/web/kinds.d.ts")
 WRITTEN = f"Written by tools/tables/tokens.py from {TABLE}"
 
 # by the type of what a token holds: that with nothing in it, and how the definitions have it
@@ -199,9 +201,15 @@ def token_table(table):
     )
 
 
+def listed(items, indent):
+    """Items in lines of less than 100 columns."""
+    lines = textwrap.fill(" ".join(it.replace(" ", "\0") for it in items), 100 - indent)
+    return textwrap.indent(lines, " " * indent).replace("\0", " ")
+
+
 def write_bindings(table):
     """The kinds of tokens and comments of the Rust crate, with the texts of symbols and keywords,
-    and of the header, there with their names."""
+    of the header, there with their names, and of the package for JavaScript."""
     named = [*((token.name, token.doc) for token in table.tokens), OPEN_COMMENT]
     texts = {token.name: f' = "{token.text}"' for token in [*table.symbols, *table.keywords]}
     kinds = [f"    /// {doc[0].upper()}{doc[1:]}.\n    {name}{texts.get(name, '')},"
@@ -210,9 +218,12 @@ def write_bindings(table):
                for number, (name, _) in enumerate(named)]
     fill(RUST_KINDS, "\nkinds! {\n", "\n".join([f"    // {WRITTEN}.", *kinds]), "\n}\n")
     fill(HEADER, "\nenum wgsl_token_kind {\n", ",\n".join(numbers), "\n};\n")
-    names = textwrap.fill(", ".join(f'"{name}"' for name, _ in named), 92)
-    names = textwrap.indent(names, " " * 8)
+    names = listed([f'"{name}",' for name, _ in named], 8).removesuffix(",")
     fill(HEADER, "\n    static const char *const names[] = {\n", names, "\n    };\n")
+    names = listed([f"'{name}'," for name, _ in named], 2)
+    fill(SCRIPT_KINDS, "\nexport const KINDS = [\n", f"  // {WRITTEN}.\n{names}", "\n];\n")
+    union = listed([f"| '{name}'" for name, _ in named], 2)
+    fill(SCRIPT_TYPES, "\nexport type TokenKind =\n", f"  // {WRITTEN}.\n{union}", ";\n")
 
 
 def main():
