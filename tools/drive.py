@@ -9,6 +9,7 @@ import tempfile
 import time
 import urllib.request
 from contextlib import contextmanager
+from pathlib import Path
 
 from web_socket import WebSocket
 
@@ -48,7 +49,6 @@ def wait_for(pattern, process, log):
 @contextmanager
 def process(words, folder, pattern):
     """Runs a program while the context lasts, as a group of processes that ends with it."""
-    from pathlib import Path
     log = Path(folder) / "log"
     with log.open("wb") as written:
         started = subprocess.Popen(words, stdout=written, stderr=subprocess.STDOUT,
@@ -167,11 +167,13 @@ class Page:
         self.actions(type="key", id="keys", actions=pressed)
 
     def click(self, selector):
+        """Clicks into an element, near its corner if it is large, as it may be wider than the page."""
         place = self.run("""(selector) => {
             const found = document.querySelector(selector);
             found.scrollIntoView({ block: 'nearest' });
             const box = found.getBoundingClientRect();
-            return [box.x + box.width / 2, box.y + box.height / 2].map(Math.round);
+            const inside = (size) => Math.min(size / 2, 24);
+            return [box.x + inside(box.width), box.y + inside(box.height)].map(Math.round);
         }""", selector)
         x, y = place
         move = {"type": "pointerMove", "x": x, "y": y}
