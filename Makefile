@@ -55,7 +55,8 @@ tables:
 # version of VERSION; each file of a crate has to be in the layout of rt fmt, and no line of a
 # definition or a proof may be too long; what tools write has to be up to date; each wrong body has
 # to be one that can be applied, and on record. Then all rows and tests are run over programs as
-# `rt try` compiles them, with checks of each access.
+# `rt try` compiles them, with checks of each access; and if `make web` has been run, those of the
+# package for JavaScript.
 test:
 	@test "$$(cat HANDLES)" = "Handles allowed: none." \
 	    || { echo "Failed: the file HANDLES."; exit 1; }
@@ -67,6 +68,8 @@ test:
 	@tools/make_tables --check || { echo "Failed: run \`make tables\`."; exit 1; }
 	@tools/edits_apply || { echo "Failed: tools/edits_apply, as the lines above say."; exit 1; }
 	@tools/run_tests || { echo "Failed: tools/run_tests, as the lines above say."; exit 1; }
+	@test ! -d build/web || tools/web_test \
+	    || { echo "Failed: tools/web_test, as the lines above say."; exit 1; }
 	@echo "All passed."
 
 # Every proof, the wrong bodies that tools/prove_all tries, and `make programs` over what was
