@@ -390,9 +390,9 @@ static inline uint32_t wgsl_recognize(const char *text, size_t size, char *buffe
                             buffer_size, answer);
 }
 
-/* Writes the tree of a kind (enum wgsl_tree_kind) that a text is, by its text form, into the
- * buffer: JSON, with each field of each node and its place, as docs/TREE.md says, and no byte 0
- * after it. WGSL_UNKNOWN where the kind is not one of these. */
+/* Writes the tree of a kind (enum wgsl_tree_kind) that a text is into the buffer, as JSON: each
+ * field of each node and its place, as docs/TREE.md says, and no byte 0 after it. WGSL_UNKNOWN where
+ * the kind is not one of these. */
 static inline uint32_t wgsl_tree(uint32_t kind, const char *text, size_t size, char *buffer,
                                  size_t buffer_size, struct wgsl_answer *answer) {
     if (!wgsl_is_memory(text, size, 1) || !wgsl_is_memory(buffer, buffer_size, 1)

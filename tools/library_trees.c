@@ -6,17 +6,17 @@
 #include "library_forms.h"
 #include "wgsl.h"
 
-/* A tree is written by its form, and no tree has another number. */
+/* A tree is written as JSON, and no tree has another number. */
 static int check_trees(void) {
-    static const char form[] =
-        "{\"NamedComponent\":{\"component\":\"b\",\"base\":{\"span\":[0,1],\"node\":"
-        "{\"TypeOrIdentifier\":{\"ident\":\"a\",\"template_args\":null}}}}}";
-    size_t size = sizeof form - 1;
+    static const char json[] =
+        "{\"Chain\":[\"a\",{\"NamedComponent\":{\"base\":[0,1],\"component\":\"b\"}}]}";
+    static const char empty[] = "{\"Void\":{\"attributes\":[]}}";
+    size_t size = sizeof json - 1;
     char buffer[256];
     CHECK(wgsl_tree(WGSL_STATEMENT, ";", 1, buffer, sizeof buffer, &answer) == WGSL_DONE);
-    CHECK(answer.size == 6 && memcmp(buffer, "\"Void\"", 6) == 0);
+    CHECK(is_size(sizeof empty - 1) && memcmp(buffer, empty, sizeof empty - 1) == 0);
     CHECK(wgsl_tree(WGSL_EXPRESSION, "a.b", 3, buffer, sizeof buffer, &answer) == WGSL_DONE);
-    CHECK(is_size(size) && memcmp(buffer, form, size) == 0);
+    CHECK(is_size(size) && memcmp(buffer, json, size) == 0);
     memset(buffer, '#', sizeof buffer);
     CHECK(wgsl_tree(5, ";", 1, buffer, sizeof buffer, &answer) == WGSL_UNKNOWN && is_size(0));
     CHECK(is_filled(buffer, sizeof buffer));

@@ -5,10 +5,13 @@ Run it at the top of the repository, and then `rt fmt` in the crates that it wri
 
     tools/tables/packed_rules.py
 
-It reads crates/wgsl_model_packed/rules, and writes the definition of the rules, the table of them
-that the library prints by, and their numbers for the writer of the library and for the Rust crate,
-with the places of each for that. It fails if the JSON of a rule has other places than its text.
+It reads crates/wgsl_model_packed/rules, and writes the definition of the rules and of their JSON,
+the tables of both that the library prints by, and their numbers for the writer of the library and
+for the Rust crate, with the places of each for that. It puts a table of them into docs/TREE.md, and
+how the JSON of each begins into tools/library_kinds.c. It fails if the JSON of a rule has other
+places than its text.
 """
+import json
 import re
 import textwrap
 from pathlib import Path
@@ -16,11 +19,16 @@ from typing import NamedTuple
 
 RULES = Path("crates/wgsl_model_packed/rules")
 SPECS = Path("crates/wgsl_model_packed/specs/Rules.antt")
+JSON = Path("crates/wgsl_model_packed/specs/JsonRules.antt")
 TABLE = Path("crates/wgsl_print_packed/src/rules.rt")
 NUMBERS = Path("crates/wgsl_tree_packed/src/rules.rt")
 BINDING = Path("bindings/rust/src/packed/rules.rs")
+DOCUMENT = Path("docs/TREE.md")
+TEST = Path("tools/library_kinds.c")
 BY = "Written by tools/tables/packed_rules.py from crates/wgsl_model_packed/rules"
 
+# how many columns the codes of a text have in a line
+LONGEST = 110
 LINE = re.compile(r'(\w+) ("(?:[^"\\]|\\.)*") -- (.*)')
 
 
@@ -60,6 +68,20 @@ def check(rule):
         raise SystemExit(f"{RULES}: the JSON of {rule.name} has other places than its text")
 
 
+def quoted(text):
+    """A text between quotation marks, for both languages."""
+    return json.dumps(text)
+
+
+def codes(text):
+    """The codes of a text, in two lines if they would be too long for one."""
+    line = f"codes {quoted(text)}"
+    if len(line) <= LONGEST:
+        return line
+    at = text.rindex(',"', 0, len(text) // 2 + 1)
+    return f"(codes {quoted(text[:at])}\n    ++ codes {quoted(text[at:])})"
+
+
 def definition(rules):
     """The definition of the rules, and of the number of each."""
     numbers = "\n".join(
@@ -79,15 +101,35 @@ rules =
 """
 
 
+def json_definition(rules):
+    """The definition of the JSON of the rules."""
+    texts = "\n".join(f"    {codes(rule.json)} ∷" for rule in rules)
+    return f"""\
+-- {BY}: the JSON of the rules.
+use Rattle.std.specs.Prelude.{{ℕ, List, [], ◌∷◌, ◌++◌, codes}}
+
+-- the JSON of each rule, by its number
+abbrev pub json_rules : List (List ℕ)
+json_rules =
+{texts}
+    []
+"""
+
+
 def table(rules):
-    """The table of the texts in Rattle."""
+    """The tables of the texts and of the JSON in Rattle."""
     texts = "".join(f"    {rule.text},\n" for rule in rules)
+    jsons = "".join(f"    {quoted(rule.json)},\n" for rule in rules)
     return f"""\
 //! {BY}: the rules.
 
 /// What is printed by each rule, by its number.
 pub static RULES: [&str; {len(rules)}] = [
 {texts}];
+
+/// The JSON of each rule, by its number.
+pub static JSON_RULES: [&str; {len(rules)}] = [
+{jsons}];
 """
 
 
@@ -113,13 +155,44 @@ pub(super) static PLACES: [&[u8]; {len(rules)}] = [
 """
 
 
+def code(text):
+    """A text in a cell of a table, or nothing."""
+    return f"`` {text} ``".replace("|", "\\|") if text else ""
+
+
+def document(rules):
+    """The rules as a table of a document."""
+    rows = "".join(f"| {number} | `{rule.name}` | {rule.what} | {code(rule.text[1:-1])} "
+                   f"| {code(rule.json)} |\n" for number, rule in enumerate(rules))
+    return f"\n\n| | Rule | | Printed | JSON |\n|---|---|---|---|---|\n{rows}\n"
+
+
+def starts(rules):
+    """How the JSON of each rule with a name begins, up to the first place, for C."""
+    found = dict.fromkeys(re.split("[$#%&?]", rule.json)[0] for rule in rules)
+    return "".join(f"    {quoted(it)},\n" for it in found if '"' in it and it not in
+                   ('"', '{"', '["', '{"span":'))
+
+
+def fill(path, begin, text, end):
+    """Writes a text into a file, between two of its lines."""
+    old = path.read_text()
+    at = old.index(begin) + len(begin)
+    path.write_text(old[:at] + text + old[old.index(end, at):])
+
+
 def main():
     rules = read()
-    written = {SPECS: definition(rules), TABLE: table(rules), NUMBERS: constants(rules),
-               BINDING: binding(rules)}
+    written = {SPECS: definition(rules), JSON: json_definition(rules), TABLE: table(rules),
+               NUMBERS: constants(rules), BINDING: binding(rules)}
     for path, text in written.items():
         if path.parent.is_dir():
             path.write_text(text)
+    if DOCUMENT.exists():
+        fill(DOCUMENT, f"<!-- The table is {BY[0].lower()}{BY[1:]}. -->", document(rules),
+             "<!-- The end of the table. -->")
+    if TEST.exists():
+        fill(TEST, "\nstatic const char *const starts[] = {\n", starts(rules), "};\n")
 
 
 if __name__ == "__main__":

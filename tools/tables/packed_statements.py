@@ -17,9 +17,9 @@ from node_table import Table, snake
 from packed_equations import Equations
 from plain_trees import constructor, is_apart, short
 from statement_cycle import ROOT, VIEW, Cycle, listed
-from tree_forms import TREES
 
 CRATE = Path("crates/wgsl_tree_packed")
+TREES = "Rattle.wgsl_model.specs.Trees"
 MINE = "Rattle.wgsl_tree_packed.specs"
 PACKED = "Rattle.wgsl_model_packed.specs"
 BY = "Written by tools/tables/packed_statements.py from the equations of packed forms"
