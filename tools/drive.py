@@ -20,6 +20,8 @@ NEEDED = {
     "Chromium": {"chromium": "chromium", "chromedriver": "chromium-driver"},
     "Firefox": {"firefox-esr": "firefox-esr"},
 }
+# for how many milliseconds a button is down: the editor needs a moment in Firefox
+CLICK = 50
 KEYS = {"Enter": "\ue007", "Tab": "\ue004", "Home": "\ue011", "End": "\ue010", "Left": "\ue012",
         "Up": "\ue013", "Right": "\ue014", "Down": "\ue015", "Delete": "\ue017",
         "Escape": "\ue00c", "Control": "\ue009", "Shift": "\ue008"}
@@ -176,9 +178,9 @@ class Page:
             return [box.x + inside(box.width), box.y + inside(box.height)].map(Math.round);
         }""", selector)
         x, y = place
-        move = {"type": "pointerMove", "x": x, "y": y}
-        press = [{"type": kind, "button": 0} for kind in ("pointerDown", "pointerUp")]
-        self.actions(type="pointer", id="mouse", actions=[move, *press])
+        down, up = ({"type": f"pointer{it}", "button": 0} for it in ("Down", "Up"))
+        self.actions(type="pointer", id="mouse", actions=[
+            {"type": "pointerMove", "x": x, "y": y}, down, {"type": "pause", "duration": CLICK}, up])
 
     def scheme(self, theme):
         """Has the system's colours be light or dark."""

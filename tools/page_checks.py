@@ -25,7 +25,6 @@ FOCUSED = "() => document.activeElement.id || document.activeElement.textContent
 TABS = """() => [...document.querySelectorAll('[role=tab]')].map((tab) => [
     tab.id, tab.ariaSelected, tab.tabIndex,
     document.getElementById(tab.getAttribute('aria-controls')).hidden])"""
-ENTERED = "() => document.querySelector('#source').contains(document.activeElement)"
 MARKED = """() => [...document.querySelectorAll('#source .chosen')]
     .map((it) => it.textContent).join('')"""
 SET = """(text) => { document.querySelector('#source .CodeMirror').CodeMirror.setValue(text); }"""
@@ -49,20 +48,9 @@ def expect(page, what, wanted, script, *args):
         time.sleep(0.02)
 
 
-def enter(page):
-    """Clicks into the editor until it has the focus, which Firefox gives a new page late."""
-    started = time.monotonic()
-    while time.monotonic() - started < PATIENCE:
-        page.click("#source .CodeMirror-line")
-        if page.run(ENTERED):
-            return
-        time.sleep(0.1)
-    raise Wrong("the editor does not get the focus")
-
-
 def write(page, text):
     """Types a text into the editor, in place of what is there."""
-    enter(page)
+    page.click("#source .CodeMirror-line")
     page.keys("Control", "a")
     page.keys("Delete")
     page.type(text)
@@ -252,7 +240,7 @@ def check_long(page):
     # without its directive, which may only be at the start of a module
     shader = (TOP / "examples" / "commented" / "waves.wgsl").read_text().split(";", 1)[1]
     page.run(SET, shader * (LONG // len(shader)))
-    enter(page)
+    page.click("#source .CodeMirror-line")
     page.run("""() => {
         globalThis.longest = 0;
         let last = performance.now();

@@ -38,7 +38,7 @@ export class Options {
       const value = values[field.name] ?? standardOf(field);
       if (field.type === 'checkbox') field.checked = value === 'true';
       else field.value = value;
-      // a list has no value that is none of its own
+      // a list takes no value that it does not have
       if (field.selectedIndex < 0) field.value = standardOf(field);
     }
   }
