@@ -7,7 +7,8 @@ headers = $(DESTDIR)$(PREFIX)/include
 libraries = $(DESTDIR)$(PREFIX)/lib
 included = wgsl.h wgsl_packed.h wgsl_packed.json
 
-.PHONY: help demo build lib web tables test prove mutants programs install uninstall dist clean
+.PHONY: help demo build lib web site tables test prove mutants programs browsers install uninstall
+.PHONY: dist clean
 
 help:
 	@echo "make demo       formats a shader with wgsltidy, and prints it with wgslfmt, without proofs"
@@ -15,6 +16,7 @@ help:
 	@echo "make lib        proves the library for C and Rust, build/libwgsl.a; with ARCH=aarch64"
 	@echo "                build/aarch64/libwgsl.a"
 	@echo "make web        makes the npm package build/web of that library, as WebAssembly"
+	@echo "make site       makes the page build/site of that package and of web/"
 	@echo "make install    installs the programs, their man pages, and the library if it is built, below"
 	@echo "                PREFIX, which is $(PREFIX)"
 	@echo "make uninstall  removes them"
@@ -22,6 +24,7 @@ help:
 	@echo "make tables     writes again what tools write from the definitions"
 	@echo "make test       runs all tests, over programs that are not proved, and checks the documents"
 	@echo "make prove      proves everything, and tries what is built; make mutants tries all wrong bodies"
+	@echo "make browsers   tries build/site and build/web in Chromium and Firefox"
 	@echo "make clean      removes build/ and what rt keeps in crates/*/out"
 
 demo:
@@ -40,6 +43,9 @@ lib:
 
 web:
 	@tools/web
+
+site:
+	@tools/site
 
 tables:
 	@tools/make_tables
@@ -97,6 +103,10 @@ programs:
 	@tools/library_tests || { echo "Failed: tools/library_tests, as above."; exit 1; }
 	@tools/build || { echo "Failed: tools/build, as above."; exit 1; }
 	@tools/dist_test || { echo "Failed: tools/dist_test, as above."; exit 1; }
+
+# The page and the rows in Chromium and Firefox, which neither `make test` nor `make prove` needs.
+browsers:
+	@tools/browsers || { echo "Failed: tools/browsers, as the lines above say."; exit 1; }
 
 install:
 	@for program in wgsltidy wgslfmt wgslmin; do \

@@ -15,7 +15,7 @@ from row_files import rows_of
 
 TOP = Path(__file__).resolve().parent.parent
 sys.path.append(str(TOP / "tools" / "tables"))
-from node_table import Table, separated, snake  # noqa: E402
+from node_table import Table  # noqa: E402
 
 # the words of rows by which trees are read, in the order of their numbers, and their kinds
 KINDS = {"unit": "TranslationUnit", "directive": "GlobalDirective",
@@ -79,6 +79,12 @@ class Walk:
 
     def __init__(self, table, text):
         self.table = table
+        # the kinds whose JSON has another shape than their nodes
+        self.own = {"Expression": self.expression, "TypeExpression": self.type_expression,
+                    "TemplateArg": self.template_arg, "CaseSelector": self.case_selector,
+                    "Attribute": self.attribute, "DeclarationKind": self.declaration_kind}
+        # the variants of attributes by their names
+        self.attributes = {word: name for name, word in table.attribute_words().items()}
         # the UTF-16 offset of each byte offset at which a character starts or ends
         self.offsets = {0: 0}
         size = units = 0
@@ -86,6 +92,11 @@ class Walk:
             size += len(character.encode())
             units += len(character.encode("utf-16-le")) // 2
             self.offsets[size] = units
+
+    def span(self, places):
+        """What a node has whose span this is."""
+        start, end = (self.offsets[it] for it in places)
+        return {"span": {"start": start, "end": end}}
 
     def tree(self, held, form, span=None):
         """What a tree has where the table says what it holds, and the JSON is this."""
@@ -97,26 +108,82 @@ class Walk:
         if not kind or kind.form == "words":
             return form
         if kind.is_spanned and span is None:
-            start, end = (self.offsets[it] for it in form["span"])
-            return self.tree(held, form["node"], {"span": {"start": start, "end": end}})
+            return self.tree(held, form["node"], self.span(form["span"]))
+        if held == "Expression" and "Chain" in form:
+            return self.chain(*form["Chain"], span)
+        if held in self.own:
+            return self.own[held](form, span or {})
         make = self.struct if kind.form == "struct" else self.variant
         return make(kind, form, span or {})
 
+    def chain(self, first, *links):
+        """Components, elements and operations after what is leftmost; last is the whole's span."""
+        *links, whole = links
+        fields = [next(iter(it.values())) for it in links]
+        spans = [self.span(it.get("base") or it.get("left")) for it in fields]
+        node = self.tree("Expression", first, spans[0])
+        for link, span in zip(links, [*spans[1:], whole]):
+            (name, inside), = link.items()
+            kind = self.table.by_name[dict(self.table.by_name["Expression"].parts)[name]]
+            left = "left" if "left" in inside else "base"
+            others = {field: self.tree(held, inside[field]) for field, held in kind.parts
+                      if field != left}
+            node = {"type": kind.name, **span, left: node, **others}
+        return node
+
     def struct(self, kind, form, span):
+        """A struct, whose fields may be in that of its variant."""
+        if len(form) == 1 and not form.keys() <= dict(kind.parts).keys():
+            form, = form.values()
+        if kind.name == "Function":
+            result = form["result"] or {"attributes": [], "ty": None}
+            form = {**form, "return_attributes": result["attributes"], "return_type": result["ty"]}
         fields = {name: self.tree(held, form[name]) for name, held in kind.parts}
         return {"type": kind.name, **span, **fields}
 
     def variant(self, kind, form, span):
-        name, inside = (form, None) if isinstance(form, str) else next(iter(form.items()))
+        (name, inside), = form.items()
+        return self.made(kind, name, inside, span)
+
+    def made(self, kind, name, inside, span):
+        """A variant by its name, with what is in it."""
         held = dict(kind.parts)[name]
         if (of := self.table.by_name.get(held)) and of.form != "words" and not of.is_spanned:
             return self.tree(held, inside, span)
-        if pair := re.fullmatch(r"\((.*)\)\?", held):
-            names = [snake(it.removesuffix("?")) for it in separated(pair[1])]
-            fields = dict(zip(names, inside or [None] * len(names)))
-        else:
-            fields = {"value": self.tree(held, inside)} if held else {}
-        return {"type": f"{name}{kind.name}", **span, **fields}
+        value = {"value": self.tree(held, inside)} if held else {}
+        return {"type": f"{name}{kind.name}", **span, **value}
+
+    def expression(self, form, span):
+        """An expression that is no chain; a type is one too."""
+        if isinstance(form, str) or "Template" in form:
+            return self.type_expression(form, span)
+        return self.variant(self.table.by_name["Expression"], form, span)
+
+    def type_expression(self, form, span):
+        fields = form["Template"] if "Template" in form else {"ident": form, "template_args": None}
+        held = dict(self.table.by_name["TypeExpression"].parts)["template_args"]
+        arguments = self.tree(held, fields["template_args"])
+        return {"type": "TypeExpression", **span, **fields, "template_args": arguments}
+
+    def template_arg(self, form, span):
+        return {"type": "TemplateArg", "expression": self.tree("Expression", form)}
+
+    def case_selector(self, form, span):
+        kind = self.table.by_name["CaseSelector"]
+        if form == "default":
+            return self.made(kind, "Default", None, span)
+        return self.made(kind, "Expression", form, span)
+
+    def attribute(self, form, span):
+        name, inside = (form, None) if isinstance(form, str) else next(iter(form.items()))
+        variant = self.attributes.get(name, "Custom")
+        return self.made(self.table.by_name["Attribute"], variant, inside, span)
+
+    def declaration_kind(self, form, span):
+        if isinstance(form, str):
+            return {"type": f"{form.capitalize()}DeclarationKind"}
+        space, mode = form["var"] or (None, None)
+        return {"type": "VarDeclarationKind", "address_space": space, "access_mode": mode}
 
 
 def compare(cases):
