@@ -1,8 +1,8 @@
 //! Says to cargo where the static library is: in the folder that `CENTRELILAC_LIB` names, from the
 //! folder of this crate if it is relative; without it in the folder of this crate, as in a release,
-//! or in the folder `build` of the repository, where `make lib` leaves it; that for ARM is below, in
-//! `aarch64`. If it is in none, or cargo compiles for a platform that it is not for, checks and
-//! documentation still work, and what is linked fails after a warning that says so.
+//! or in the folder `build` of the repository, where `make lib` leaves it; that for ARM is in the
+//! folder `aarch64` there. If it is in none, or cargo compiles for a platform that it is not for,
+//! checks and documentation still work, and what is linked fails after a warning that says so.
 
 use std::env;
 use std::path::PathBuf;
@@ -41,8 +41,8 @@ fn main() {
     let part = part();
     if part.is_none() {
         println!(
-            "cargo:warning={LIBRARY} is for Linux on x86-64 processors of level v2 or later, and on \
-             64-bit ARM, and links for no other platform"
+            "cargo:warning={LIBRARY} is for Linux on x86-64 processors of level v2 or later, and \
+             on 64-bit ARM, and links for no other platform"
         );
     }
     let folder = folder(part.unwrap_or_default());
@@ -51,7 +51,8 @@ fn main() {
     if !library.is_file() {
         println!(
             "cargo:warning={} is not there, and nothing links without it: run `make lib` at the \
-             top of the repository, with ARCH=aarch64 for ARM, or name its folder by CENTRELILAC_LIB",
+             top of the repository, with ARCH=aarch64 for ARM, or name its folder by \
+             CENTRELILAC_LIB",
             library.display()
         );
     }

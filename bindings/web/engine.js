@@ -13,7 +13,7 @@ const NUMBER = 8;
 /** The numbers of `struct wgsl_answer`. */
 const ANSWER = ['size', 'start', 'end', 'kind', 'expected'];
 
-/** How much memory an instance may keep after a call: it never shrinks, so a greater one is left. */
+/** How much memory an instance may keep after a call: one with more is left, as none shrinks. */
 const KEPT = 1 << 26;
 
 let module;

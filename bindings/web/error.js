@@ -78,7 +78,7 @@ export class WgslError extends Error {
     return `${line}\n${' '.repeat(this.column - 1)}${marks}`;
   }
 
-  /** Writes it as compilers do: `NAME:LINE:COLUMN: error: MESSAGE`, the line, and marks below it. */
+  /** Writes it as compilers do: `NAME:LINE:COLUMN: error: MESSAGE`, the line, marks below it. */
   inFile(name) {
     if (!this.#hasPlace) return `${name}: error: ${this.#alone}`;
     const place = `${name}:${this.line}:${this.column}`;

@@ -55,8 +55,8 @@ static size_t size_of(size_t class) {
     return class < 4 ? (class + 1) * ALIGN : (5 + class % 4) << (class / 4 + 3);
 }
 
-/* Grows memory; returns 0 where the host refuses that. Of what it returns then, -1, 32 bits are left
- * once memory has 32 bits. */
+/* Grows memory; returns 0 where the host refuses that. Of the -1 that it returns then, 32 bits are
+ * left once memory has 32 bits. */
 static int grow(size_t pages) {
     if ((unsigned)__builtin_wasm_memory_grow(0, pages) == (unsigned)-1) {
         return 0;

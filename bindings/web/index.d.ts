@@ -32,7 +32,7 @@ export interface Token extends Span {
 
 /** How `tidy` formats. */
 export interface Layout {
-  /** How many columns a line may have, from 1 to 9999, or 0 for any number: 100 if it is left out. */
+  /** How many columns a line may have, from 1 to 9999, or 0 for any number: 100. */
   width?: number;
   /** How many spaces a level has, from 1 to 16, or a tab, which counts as four: 4. */
   indent?: number | 'tab';
@@ -142,7 +142,7 @@ export function print(node: Unspanned<Node>): string;
 export function templateLists(text: string): Span[];
 
 /**
- * Returns the greatest number of brackets, blocks, template lists and prefix operators that are open
- * at one place of a text.
+ * Returns the greatest number of brackets, blocks, template lists and prefix operators that are
+ * open at one place of a text.
  */
 export function nesting(text: string): number;

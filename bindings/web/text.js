@@ -53,7 +53,7 @@ export class Source {
   }
 }
 
-/** How many UTF-16 units a character has by the first byte of its UTF-8; of any other byte, none. */
+/** How many UTF-16 units a character has, by the first byte of its UTF-8; of others, none. */
 function unitCount(byte) {
   if ((byte & 0xc0) === 0x80) return 0;
   return byte >= 0xf0 ? 2 : 1;

@@ -90,13 +90,18 @@ async function filesBelow(folder) {
   return found;
 }
 
-/** The files of some paths, in order: of a folder those below it, by the bytes of their paths. */
+/** Puts paths into the order of their bytes. */
+function inOrder(paths) {
+  return paths.sort((a, b) => Buffer.compare(Buffer.from(a), Buffer.from(b)));
+}
+
+/** The files of some paths, in order: of a folder those below it. */
 export async function filesOf(paths) {
   const files = [];
   for (const path of paths) {
     const isFolder = path !== STDIN && (await stat(path).catch(() => undefined))?.isDirectory();
     if (!isFolder) files.push(path);
-    else files.push(...(await filesBelow(path)).sort((a, b) => Buffer.compare(Buffer.from(a), Buffer.from(b))));
+    else files.push(...inOrder(await filesBelow(path)));
   }
   return files.length || paths.length ? files : [STDIN];
 }

@@ -1,5 +1,6 @@
 // Compares what the package returns with what the native library does: a line of the standard input
-// is a text with that, as tools/web_answers.py makes it. Prints the number of texts, or what differs.
+// is a text with that, as tools/web_answers.py makes it. Prints how many texts there are, or what
+// differs.
 
 import { createHash } from 'node:crypto';
 import { createInterface } from 'node:readline';

@@ -4,7 +4,8 @@ import assert from 'node:assert/strict';
 import { readFileSync } from 'node:fs';
 import { beforeEach, test } from 'node:test';
 
-const module = new WebAssembly.Module(readFileSync(new URL('../../../build/heap.wasm', import.meta.url)));
+const file = new URL('../../../build/heap.wasm', import.meta.url);
+const module = new WebAssembly.Module(readFileSync(file));
 /** How many bytes are before each block. */
 const HEAD = 8;
 
