@@ -1,23 +1,20 @@
-#!/usr/bin/env python3
 """Writes the rules of the languages that are recognised, each in the form in which one token
 decides, as steps over tokens: the language that is parsed, without its checks, and the smaller one
 of `recognize_str`. The rules that are the same in both are written once.
-
-Run it at the top of the repository, and format what it wrote with `rt fmt`:
-
-    tools/tables/dialect.py crates/wgsl_read_dialect
-
-It reads the rules from the definitions. Nothing rests on it: the prover checks every rule.
 """
 import re
-import sys
 import textwrap
 from pathlib import Path
 
+import inputs
 import token_table
 from tables import DIALECTS, Tables, rules
 
-THEORY = Path("crates/wgsl_theory_grammar")
+READS = (inputs.TOKENS, inputs.FACTORED)
+WRITES = ("crates/wgsl_read_dialect/src/[!dlw]*.rt", "crates/wgsl_read_dialect/specs/Symbols.antt",
+          "crates/wgsl_read_dialect/proofs/rules/*/Answers.antt")
+
+CRATE = Path("crates/wgsl_read_dialect")
 
 
 class Steps:
@@ -393,14 +390,14 @@ def answers(name, found):
 
 def steps_in(language, steps):
     """The steps of every symbol in a language."""
-    every = {n: steps.of(g) for n, g in rules(THEORY, language).items()}
+    every = {n: steps.of(g) for n, g in rules(language).items()}
     every[OPENED] = opened(every[OPENED], every)
     return every
 
 
-def main(crate):
+def main():
     classes = token_table.Table().classes
-    tables = Tables(rules(THEORY, "parsed"))
+    tables = Tables(rules("parsed"))
     steps = Steps(tables, {c: i for i, c in enumerate(classes)})
     found = {language: steps_in(language, steps) for language in DIALECTS}
     needed = set.union(*(reached(every, ("of", "unit")) for every in found.values()))
@@ -411,15 +408,11 @@ def main(crate):
     writers = {part: Writer(smaller, parts, tables.empty) for part in parts}
     writers[OWN] = Writer(own, {OWN: list(own)}, tables.empty)
     for part, writer in writers.items():
-        (crate / f"src/{part}.rt").write_text(writer.rules(part))
+        (CRATE / f"src/{part}.rt").write_text(writer.rules(part))
     homes = {n: part for part, symbols in parts.items() for n in symbols}
-    (crate / "src/rules.rt").write_text(rules_text(smaller, homes, own))
-    (crate / "specs/Symbols.antt").write_text(view_text(smaller))
+    (CRATE / "src/rules.rt").write_text(rules_text(smaller, homes, own))
+    (CRATE / "specs/Symbols.antt").write_text(view_text(smaller))
     for language, every in found.items():
-        proofs = crate / f"proofs/rules/{language}_side"
+        proofs = CRATE / f"proofs/rules/{language}_side"
         proofs.mkdir(parents=True, exist_ok=True)
         (proofs / "Answers.antt").write_text(answers(language, {n: every[n] for n in homes}))
-
-
-if __name__ == "__main__":
-    main(Path(sys.argv[1]))

@@ -1,15 +1,15 @@
-#!/usr/bin/env python3
 """Writes the proof of each `Display` of wgsl_tree_statement: it writes what the function does that
 it calls, whose result is named `outcome` there.
 
-Run it at the top of the repository:
-
-    tools/tables/display_answers.py
-
-It reads the sources of the crate.
+By hand, each struct that is printed would have one more file.
 """
 import re
 from pathlib import Path
+
+from node_table import sources
+
+READS = ("crates/wgsl_tree_statement/src/*.rt", "!*_nodes.rt")
+WRITES = ("crates/wgsl_tree_statement/proofs/*/*Display/fmt/Answers.antt",)
 
 CRATE = Path("crates/wgsl_tree_statement")
 DISPLAY = re.compile(
@@ -32,12 +32,8 @@ def answer(module, name, function):
 
 
 def main():
-    for file in sorted((CRATE / "src").glob("*.rt")):
+    for file in sources("statement"):
         for name, function in DISPLAY.findall(file.read_text()):
             place = CRATE / f"proofs/{file.stem}/{name}Display/fmt/Answers.antt"
             place.parent.mkdir(parents=True, exist_ok=True)
             place.write_text(answer(file.stem, name, function))
-
-
-if __name__ == "__main__":
-    main()

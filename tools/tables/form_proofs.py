@@ -1,19 +1,20 @@
-#!/usr/bin/env python3
 """Writes the proofs of wgsl_tree_form for the nodes whose writers tools/tables/tree_forms.py
 writes: for the variants of enums, structs that are written in several steps, and nodes with their
 spans.
-
-Run it at the top of the repository, after tools/tables/tree_forms.py:
 
     tools/tables/form_proofs.py
 
 It reads crates/wgsl_model/nodes. The prover finds the other proofs by itself.
 """
+import inputs
 from field_codes import sources
 from form_answers import PLACES, answer, answers_text, found_in
 from node_table import TABLE, Table
 from plain_trees import coded
 from tree_forms import CODES, CRATE, MANY, files, view
+
+READS = (inputs.NODES, inputs.MODEL, inputs.SOURCES, inputs.VIEWS)
+WRITES = ("crates/wgsl_tree_form/proofs/*_nodes/*/write_form/Answers.antt",)
 
 SPAN = "Rattle.wgsl_span.specs"
 STEP = "has_written_of_eq _ _ _ _ _"
@@ -91,7 +92,3 @@ def main():
     for module, _, _, parts in files(table):
         for kind in (table.by_name[name] for _, _, names in parts for name in names):
             write_all(table, module, kind)
-
-
-if __name__ == "__main__":
-    main()

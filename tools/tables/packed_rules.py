@@ -1,17 +1,15 @@
-#!/usr/bin/env python3
-"""Writes the rules of the packed form, and their numbers.
-
-Run it at the top of the repository, and then `rt fmt` in the crates that it writes to:
-
-    tools/tables/packed_rules.py
-
-It reads crates/wgsl_model_packed/rules, and writes the definition of the rules, the table of them
-that the library prints by, and their numbers for the writer of the library and for the Rust crate,
-with the places of each for that.
+"""Writes the rules of the packed form, and their numbers: the definition of the rules, the table of
+them that the library prints by, and their numbers for the writer of the library and for the Rust
+crate, with the places of each for that.
 """
 import re
 import textwrap
 from pathlib import Path
+
+import inputs
+READS = (inputs.RULES,)
+WRITES = ("crates/wgsl_model_packed/specs/Rules.antt", "crates/wgsl_print_packed/src/rules.rt",
+          "crates/wgsl_tree_packed/src/rules.rt", "bindings/rust/src/packed/rules.rs")
 
 RULES = Path("crates/wgsl_model_packed/rules")
 SPECS = Path("crates/wgsl_model_packed/specs/Rules.antt")
@@ -92,7 +90,3 @@ def main():
     for path, text in written.items():
         if path.parent.is_dir():
             path.write_text(text)
-
-
-if __name__ == "__main__":
-    main()

@@ -1,23 +1,23 @@
-#!/usr/bin/env python3
 """Writes the functions of wgsl_tree_packed that write the packed forms of statements, and which of
 these a `;` ends.
 
-Run it at the top of the repository, and `rt fmt` in crates/wgsl_tree_packed after it:
-
-    tools/tables/packed_statements.py
-
-It reads crates/wgsl_model/nodes, and the equations of the packed forms of statements.
+By hand, each statement would be in one more file, in two if no `;` ends it.
 """
 import re
 from dataclasses import replace
 from pathlib import Path
 
+import inputs
 from antt import enclosed
 from node_table import Table, snake
 from packed_equations import Equations
 from plain_trees import constructor, is_apart, short
 from statement_cycle import ROOT, VIEW, Cycle, listed
 from tree_forms import TREES
+
+READS = (inputs.NODES, inputs.MODEL, inputs.VIEWS, "crates/wgsl_tree_statement/specs/*.antt",
+         "crates/wgsl_model_packed/specs/Statements.antt", "crates/wgsl_tree_packed/src/*.rt")
+WRITES = ("crates/wgsl_tree_packed/src/statement.rt", "crates/wgsl_tree_packed/specs/Ended.antt")
 
 CRATE = Path("crates/wgsl_tree_packed")
 MINE = "Rattle.wgsl_tree_packed.specs"
@@ -279,7 +279,3 @@ def main():
     equations, cycle = Equations(table), Cycle(table)
     (CRATE / "src/statement.rt").write_text(source(equations, cycle))
     (CRATE / "specs/Ended.antt").write_text(definition(equations))
-
-
-if __name__ == "__main__":
-    main()

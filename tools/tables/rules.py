@@ -1,18 +1,16 @@
-#!/usr/bin/env python3
 """Writes, for each symbol of the factored grammar that some crate cites, the word for what its
 right side reads and the equation that the symbol reads just that.
 
-Run it at the top of the repository:
-
-    tools/tables/rules.py crates/wgsl_theory_grammar
-
-It reads the names of the symbols from the definitions, and in all crates which are cited.
-Nothing rests on it: the prover checks every equation.
+By hand, each proof that cites one more symbol would change two more files.
 """
 import re
-import sys
 from pathlib import Path
 
+READS = ("crates/*/src/*.rt", "crates/*/specs/*.antt", "crates/*/proofs/*.antt")
+WRITES = ("crates/wgsl_theory_grammar/specs/*Rules.antt",
+          "crates/wgsl_theory_grammar/proofs/*Equations.antt")
+
+CRATE = Path("crates/wgsl_theory_grammar")
 SYMBOLS = Path("crates/wgsl_model/specs/Grammar/Symbols.antt")
 
 # the further symbols of expressions and of modules; the others are those of statements
@@ -34,10 +32,10 @@ def constructors(path, data):
     return [name for line in lines for name in re.findall(r"[a-z_]+", line.split(":")[0])]
 
 
-def groups(crate):
+def groups():
     """The name of each group, what it is of, its written and its further symbols."""
     symbols = constructors(SYMBOLS, "Symbol")
-    parts = constructors(crate / "specs" / "Factored.antt", "Further")
+    parts = constructors(CRATE / "specs" / "Factored.antt", "Further")
     left_side = symbols.index("lhs_expression") + 1
     update = symbols.index("for_update") + 1
     shared = ["var_template", "typed_ident"]
@@ -49,10 +47,10 @@ def groups(crate):
     ]
 
 
-def cited(crate, group):
+def cited(group):
     """The symbols of a group whose word or equation is cited in some crate."""
     forms = ("*/src/**/*.rt", "*/specs/**/*.antt", "*/proofs/**/*.antt")
-    paths = [path for form in forms for path in crate.parent.glob(form)]
+    paths = [path for form in forms for path in CRATE.parent.glob(form)]
     cites = re.compile(rf"{group}(?:Rules|Equations)(?:::|\.)(\w+|\{{[^}}]*\}})")
     written = (f"{group}Rules", f"{group}Equations")
     found = [names for path in paths if path.stem not in written for names in cites.findall(path.read_text())]
@@ -103,13 +101,8 @@ use Rattle.wgsl_theory_grammar.proofs.Reader.{{step}}
 
 
 def main():
-    crate = Path(sys.argv[1])
-    for group, what, symbols, parts in groups(crate):
-        used = cited(crate, group)
+    for group, what, symbols, parts in groups():
+        used = cited(group)
         symbols, parts = [s for s in symbols if s in used], [p for p in parts if p in used]
-        (crate / "specs" / f"{group}Rules.antt").write_text(rules(what, symbols, parts))
-        (crate / "proofs" / f"{group}Equations.antt").write_text(equations(group, what, symbols, parts))
-
-
-if __name__ == "__main__":
-    main()
+        (CRATE / "specs" / f"{group}Rules.antt").write_text(rules(what, symbols, parts))
+        (CRATE / "proofs" / f"{group}Equations.antt").write_text(equations(group, what, symbols, parts))

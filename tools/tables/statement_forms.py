@@ -1,20 +1,22 @@
-#!/usr/bin/env python3
 """Writes the functions of wgsl_tree_form that write statements as JSON, which call one another, and
 their proof.
-
-Run it at the top of the repository, and `rt fmt` in crates/wgsl_tree_form after it:
-
-    tools/tables/statement_forms.py
 
 It reads crates/wgsl_model/nodes. What a statement holds that is not a statement has a writer
 that tools/tables/tree_forms.py writes.
 """
+import inputs
 from form_answers import answers_text, found_in, list_codes
 from node_table import TABLE, Table, snake
 from plain_trees import OWN, coded
 from statement_cycle import VIEW, Cycle, listed
 from statement_proofs import invariants_text, proofs
 from tree_forms import CODES, CRATE, TREES
+
+READS = (inputs.NODES, inputs.MODEL, inputs.SOURCES, inputs.VIEWS,
+         "crates/wgsl_tree_statement/specs/*.antt")
+WRITES = ("crates/wgsl_tree_form/src/statement_nodes.rt",
+          "crates/wgsl_tree_form/proofs/StatementLists.antt",
+          "crates/wgsl_tree_form/proofs/statement_nodes/+statements/*.antt")
 
 
 def writer(cycle, name):
@@ -135,7 +137,3 @@ def main():
                  wrote("a proof") + answers_text(CRATE.name, place, body, found_in(body))}
     for file, text in texts.items():
         (CRATE / file).write_text(text)
-
-
-if __name__ == "__main__":
-    main()

@@ -1,21 +1,20 @@
-#!/usr/bin/env python3
-"""Writes the tables of the factored grammar: what each symbol can begin with, whether it
-can be empty, what could go on after it, its rank and its height.
+"""Writes the tables of the factored grammar: what each symbol can begin with, whether it can be
+empty, what could go on after it, its rank and its height.
 
-Run it at the top of the repository:
-
-    tools/tables/tables.py crates/wgsl_theory_grammar
-
-It reads the rules from the definitions, and names each place where one token does not
-decide. Nothing rests on it: the prover checks every entry.
+It names each place where one token does not decide. Half of it reads the rules for `dialect` too.
 """
 import re
 import sys
 from dataclasses import dataclass
 from pathlib import Path
 
+import inputs
 import token_table
 
+READS = (inputs.TOKENS, inputs.FACTORED)
+WRITES = ("crates/wgsl_theory_grammar/specs/Tables.antt",)
+
+THEORY = Path("crates/wgsl_theory_grammar")
 MODEL = Path("crates/wgsl_model/specs")
 CLASSES = MODEL / "Tokens" / "ClassTable.antt"
 PARTS = ["ExpressionParts", "StatementParts", "UnitParts", "Written"]
@@ -246,9 +245,9 @@ class Rules:
         return [(patterns[1], body) for patterns, body in self.found[name] if self.is_met(patterns[0])]
 
 
-def rules(theory, dialect):
+def rules(dialect):
     """The right side of each symbol in a dialect, in the order of the symbols."""
-    factored = theory / "specs/Factored.antt"
+    factored = THEORY / "specs/Factored.antt"
     parts = [MODEL / "Grammar" / f"{part}.antt" for part in PARTS]
     found = definitions([CLASSES, *parts, factored])
     reader = Rules(found, set(token_table.Table().classes), dialect)
@@ -440,13 +439,12 @@ class Writer:
             "use Rattle.grammar.specs.Tables.{Tables}",
             f"use Rattle.wgsl_model.specs.Tokens.ClassTable.{{{used}}}",
             f"use Rattle.wgsl_model.specs.Grammar.Symbols.{{{symbols}}}",
-            f"use Rattle.{self.crate}.specs.Factored.{{FactoredSymbol, FactoredSymbol.of, FactoredSymbol.further, {further}}}",
+            f"use Rattle.{THEORY.name}.specs.Factored.{{FactoredSymbol, FactoredSymbol.of, FactoredSymbol.further, {further}}}",
         ]) + "\n" + body
 
 
 def main():
-    theory = Path(sys.argv[1])
-    tables = Tables(rules(theory, "parsed"))
+    tables = Tables(rules("parsed"))
     found = [(n, text) for n, g in tables.table.items() for text in tables.conflicts(g)]
     for n, text in found:
         print(f"{n[1]}: {text}")
@@ -456,9 +454,4 @@ def main():
     if found or bare:
         sys.exit(1)
     writer = Writer(tables, token_table.Table().classes)
-    writer.crate = theory.name
-    (theory / "specs/Tables.antt").write_text(writer.text())
-
-
-if __name__ == "__main__":
-    main()
+    (THEORY / "specs/Tables.antt").write_text(writer.text())

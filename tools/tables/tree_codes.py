@@ -1,20 +1,19 @@
-#!/usr/bin/env python3
 """Writes the code of each plain tree in wgsl_tree_code: its fields by their names, with its spans.
 
-Run it at the top of the repository:
-
-    tools/tables/tree_codes.py
-
-It reads crates/wgsl_model/nodes; what the plain trees have otherwise is in plain_trees.py.
+By hand, each node would be in one more definition; `tree_readers` and `tree_spans` follow it.
 """
 import re
 from dataclasses import dataclass
 from pathlib import Path
 
+import inputs
 from node_groups import MODULES, by_module
 from node_table import TABLE, Table, separated, snake
 from plain_trees import (
     CONSTRUCTED, INLINE, OWN, RENAMED, UNATTRIBUTED, coded, constructor, is_apart, word_text)
+
+READS = (inputs.NODES, inputs.MODEL, inputs.SOURCES)
+WRITES = ("crates/wgsl_tree_code/specs/*Nodes.antt",)
 
 SPECS = Path("crates/wgsl_tree_code/specs")
 PRELUDE = "Rattle.std.specs.Prelude"
@@ -299,7 +298,3 @@ def main():
         made = list(functions(table, kinds))
         homes |= {it.name: name for it in made}
         (SPECS / f"{name}.antt").write_text(file_text(table, what, module, made, homes))
-
-
-if __name__ == "__main__":
-    main()

@@ -1,22 +1,23 @@
-#!/usr/bin/env python3
 """Writes the functions that copy a node, each from the fields of its node, and what of their proofs
 follows from these.
 
-Run it at the top of the repository, and `rt fmt` in the crates that it writes after it:
-
-    tools/tables/tree_copies.py
-
-It reads crates/wgsl_model/nodes and the views of the crates. The prover checks what it writes.
-Copies of expressions are written by hand. What proves copies of kinds that contain each other is
-in cycle_copies.py.
+Copies of expressions are written by hand. What proves copies of kinds that contain each other is in
+cycle_copies.py.
 """
 import re
 from pathlib import Path
 
+import inputs
 from cycle_copies import ROOTS, answers_of_cycle, own_functions
 from cycle_parts import Cycle, Part
 from node_table import TABLE, Table
 from tree_nodes import COPIED, ghost_uses, places, use_lines, views
+
+READS = (inputs.NODES, inputs.TREES, inputs.SOURCES, inputs.VIEWS,
+         "crates/wgsl_tree_*/proofs/Copies.antt", "crates/wgsl_tree_statement/proofs/Views.antt")
+WRITES = ("crates/wgsl_tree_*/src/copies_nodes.rt",
+          "crates/wgsl_tree_*/proofs/copies_nodes/+clone/*.antt",
+          "crates/wgsl_tree_*/proofs/copies_nodes/*/clone_with/Answers.antt")
 
 CRATES = ["attribute", "simple", "statement", "unit"]
 # the crates whose functions copy a list of attributes, and a list of names
@@ -181,7 +182,3 @@ def main():
                 place = folder / f"proofs/copies_nodes/{kind.name}CloneWith/clone_with/Answers.antt"
                 place.parent.mkdir(parents=True, exist_ok=True)
                 place.write_text(answers)
-
-
-if __name__ == "__main__":
-    main()

@@ -1,24 +1,25 @@
-#!/usr/bin/env python3
 """Writes `==` of the kinds that contain each other, from their fields and variants, with the proofs
 that it is sameness of the codes of the plain trees.
-
-Run it at the top of the repository, and `rt fmt` in the crates that it writes after it:
-
-    tools/tables/tree_equalities.py
-
-It reads crates/wgsl_model/nodes, the views, and the lemmas about `==` of the parts that are of
-other crates. The prover checks what it writes.
 """
 import re
 import sys
 from dataclasses import dataclass
 from pathlib import Path
 
+import inputs
 from cycle_parts import LIBRARY, Cycle, imports
 from node_table import TABLE, Table, snake
 from plain_trees import coded
 from tree_nodes import ghost_uses, places, use_lines
 from tree_terms import bracketed
+
+READS = (inputs.NODES, inputs.TREES, inputs.SOURCES, inputs.VIEWS,
+         "crates/wgsl_tree_code/specs/*.antt", "crates/wgsl_tree_*/proofs/Equalities.antt",
+         "crates/wgsl_tree_statement/proofs/BlockStatements.antt",
+         "crates/wgsl_tree_statement/proofs/Views.antt")
+WRITES = ("crates/wgsl_tree_statement/src/equality_nodes.rt",
+          "crates/wgsl_tree_statement/proofs/EqualityNodes.antt",
+          "crates/wgsl_tree_statement/proofs/equality_nodes/+equal/*.antt")
 
 ROOTS = ["Statement"]
 WRITTEN = f"Written by tools/tables/tree_equalities.py from {TABLE}"
@@ -388,7 +389,3 @@ def main():
         (folder / "proofs/EqualityNodes.antt").write_text(Lemmas(cycle).text())
         (proofs / "Answers.antt").write_text(answers.text())
         (proofs / "Invariants.antt").write_text(answers.invariants())
-
-
-if __name__ == "__main__":
-    main()

@@ -1,18 +1,18 @@
-#!/usr/bin/env python3
 """Writes what wgsl_tree_form knows of each kind but expressions: its code and its writer.
-
-Run it at the top of the repository, and `rt fmt` in crates/wgsl_tree_form after it:
-
-    tools/tables/tree_forms.py
 
 It reads crates/wgsl_model/nodes. Expressions are written by hand, since a loop writes what is on
 their left sides, and so are texts, numbers, lists, pairs and what may be left out.
 """
 from pathlib import Path
 
+import inputs
 from node_groups import MODULES, alone, plain_modules, shown_by
 from node_table import TABLE, WORDS, Table, snake
 from plain_trees import coded, is_apart
+
+READS = (inputs.NODES, inputs.MODEL, inputs.SOURCES, inputs.VIEWS)
+WRITES = ("crates/wgsl_tree_form/src/[alsuw]*[elrt]_nodes.rt",
+          "crates/wgsl_tree_form/src/word_nodes.rt")
 
 CRATE = Path("crates/wgsl_tree_form")
 CODES = "Rattle.wgsl_tree_code.specs"
@@ -158,7 +158,3 @@ def main():
     table = Table()
     for name, what, crate, modules in files(table):
         (CRATE / "src" / f"{name}.rt").write_text(file_text(table, what, crate, modules))
-
-
-if __name__ == "__main__":
-    main()

@@ -1,20 +1,16 @@
-#!/usr/bin/env python3
 """Writes what follows from the variants of nodes in the crates of the trees: the functions `is_*`
 and `unwrap_*`, the conversions from what a variant holds, and which variant a plain tree is.
-
-Run it at the top of the repository, and `rt fmt` in the crates that it writes after it:
-
-    tools/tables/tree_nodes.py
-
-It reads crates/wgsl_model/nodes, the views of the crates and the plain trees of wgsl_model. The
-prover checks what it writes.
 """
 import re
 from dataclasses import dataclass
 from pathlib import Path
 
+import inputs
 from antt import source
-from node_table import TABLE, TREES, WORDS, Table, snake
+from node_table import TABLE, TREES, WORDS, Table, snake, sources
+
+READS = (inputs.NODES, inputs.TREES, inputs.SOURCES, inputs.VIEWS)
+WRITES = ("crates/wgsl_tree_*/src/variants_nodes.rt", "crates/wgsl_tree_*/specs/VariantsNodes.antt")
 
 PLAIN = Path("crates/wgsl_model/specs")
 # the constructors whose names are not those of their variants
@@ -51,7 +47,7 @@ def places():
     """Where each type is declared."""
     found = {}
     for crate in [WORDS, *TREES]:
-        for file in sorted(Path(f"crates/wgsl_tree_{crate}/src").glob("*.rt")):
+        for file in sources(crate):
             names = re.findall(r"^pub (?:struct|enum|type) (\w+)", file.read_text(), re.M)
             found |= dict.fromkeys(names, Place(crate, file.stem))
     return found
@@ -288,7 +284,3 @@ def main():
         writer, folder = Writer(table, crate, at), Path(f"crates/wgsl_tree_{crate}")
         (folder / "src/variants_nodes.rt").write_text(writer.code())
         (folder / "specs/VariantsNodes.antt").write_text(spec(writer.enums))
-
-
-if __name__ == "__main__":
-    main()

@@ -1,20 +1,20 @@
-#!/usr/bin/env python3
 """Writes the pieces of the printed text of statements, and that they print it.
 
-Run it at the top of the repository: tools/tables/tree_pieces.py
-
-It reads the functions of wgsl_model that print statements, the table of tokens, and in the files
-of wgsl_theory_printed which pieces print a part.
+By hand, each statement would be in one more file, and a part that is printed otherwise too.
 """
 import re
 import sys
 from pathlib import Path
 
 import antt
+import inputs
 from antt import enclosed, last, match, renamed, substituted
 from printed_parts import TEXT, End, Held, Indented, Line, Lines, Row, Sign, Space, Tree, grouped
 from printed_trees import Printed, Written, mutual
 from token_table import Table
+
+READS = (inputs.TOKENS, inputs.PRINTED, inputs.PIECES)
+WRITES = ("crates/wgsl_theory_printed/proofs/TreePieces/PiecesNodes.antt",)
 
 THEORY = Path("crates/wgsl_theory_printed/proofs")
 TOKENS = Path("crates/wgsl_theory_reread/specs/CanonicalStatements.antt")
@@ -241,7 +241,3 @@ def laws_of(file):
             _, _, (_, text, put, _) = antt.term(given)
             if text[0] == "app":
                 yield name, values[0][0], text, put
-
-
-if __name__ == "__main__":
-    main()

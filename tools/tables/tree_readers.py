@@ -1,19 +1,19 @@
-#!/usr/bin/env python3
 """Writes what reads the plain tree of each kind of node from its code, and the lemma that this
 gives back the tree.
 
-Run it at the top of the repository, after tools/tables/tree_codes.py:
-
     tools/tables/tree_readers.py
-
-It reads crates/wgsl_model/nodes; what the plain trees have otherwise is in plain_trees.py.
 """
+import inputs
 import tree_codes
 from node_table import TABLE, Table, separated, snake
 from plain_trees import CONSTRUCTED, INLINE, OWN, RENAMED, UNATTRIBUTED, coded, constructor, is_apart
 from tree_codes import files
 from tree_terms import (CODES, PROOFS, SIMPLE, Codes, Item, applied, bracketed, file_text, own_name,
                         own_types, pattern_of, place_of)
+
+READS = (inputs.NODES, inputs.MODEL, inputs.SOURCES, "crates/wgsl_tree_code/specs/*.antt",
+         "crates/wgsl_tree_code/proofs/Reading.antt", "crates/wgsl_tree_code/proofs/Spanless.antt")
+WRITES = ("crates/wgsl_tree_code/proofs/Read*Nodes.antt",)
 
 # what the lemma of an optional part says of a kind: that its code is not `absent`
 THERE = {"Expression": "expression_node_there", "TypeExpression": "type_expression_there"}
@@ -371,7 +371,3 @@ def main():
         head = f"Written by tools/tables/tree_readers.py from {TABLE}: {what.lower()} read from their codes."
         text = file_text(head, module, list(items(Readers(table), names)), homes(table))
         (PROOFS / f"Read{name}.antt").write_text(text)
-
-
-if __name__ == "__main__":
-    main()

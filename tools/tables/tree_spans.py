@@ -1,13 +1,9 @@
-#!/usr/bin/env python3
 """Writes the lemma, for each kind of node, that its code without spans is the code of its plain
 tree without them, and what follows: when the codes of two trees are the same.
 
-Run it at the top of the repository, after tools/tables/tree_readers.py:
-
     tools/tables/tree_spans.py
-
-It reads crates/wgsl_model/nodes; what the plain trees have otherwise is in plain_trees.py.
 """
+import inputs
 from node_table import TABLE, Table, separated, snake
 from plain_trees import (CONSTRUCTED, INLINE, OWN, SPANLESS, UNATTRIBUTED, bare, coded, constructor,
                          is_apart)
@@ -15,6 +11,10 @@ from tree_codes import files
 from tree_readers import homes, lemma, reader
 from tree_terms import (CODES, PROOFS, SIMPLE, Codes, Item, applied, bracketed, file_text, own_name,
                         own_types, pattern_of, place_of)
+
+READS = (inputs.NODES, inputs.MODEL, inputs.SOURCES, "crates/wgsl_tree_code/specs/*.antt",
+         "crates/wgsl_tree_code/proofs/Reading.antt", "crates/wgsl_tree_code/proofs/Spanless.antt")
+WRITES = ("crates/wgsl_tree_code/proofs/Spanless*Nodes.antt",)
 
 
 def spanless(name):
@@ -232,7 +232,3 @@ def main():
         if made:
             head = f"Written by tools/tables/tree_spans.py from {TABLE}: {what.lower()} without their spans."
             (PROOFS / f"Spanless{name}.antt").write_text(file_text(head, module, made, places))
-
-
-if __name__ == "__main__":
-    main()

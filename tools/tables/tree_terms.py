@@ -4,7 +4,7 @@ import re
 from dataclasses import dataclass
 from pathlib import Path
 
-from antt import source
+from antt import last
 from node_table import separated
 from plain_trees import CONSTRUCTED, OWN, RENAMED, coded, is_apart
 from tree_codes import groups
@@ -116,10 +116,12 @@ def bodies(items, front):
 
 def exports(module):
     """The names of a module that others may use."""
-    text = source(Path(f"crates/{module}.antt"))
+    text = Path(f"crates/{module}.antt").read_text()
+    passed = " ".join(re.findall(r"^pub use \S+\.\{([^}]*)\}", text, re.M))
     # the fields of a record are not names of the module
     text = re.sub(r"^(pub record .*\n)(?:  .*\n)+", r"\1", text, flags=re.M)
-    return set(STATED.findall(text)) | set(CONSTRUCTORS.findall(text))
+    names = [*STATED.findall(text), *CONSTRUCTORS.findall(text), *re.findall(r"[\w.]+", passed)]
+    return set(map(last, names))
 
 
 def imports(text, module, homes):

@@ -1,22 +1,24 @@
-#!/usr/bin/env python3
 """Writes the functions that remove the empty statements from every list of statements, each from
 the fields and variants of its node, and their proofs.
 
-Run it at the top of the repository, and `rt fmt` in crates/wgsl_tree_statement after it:
-
-    tools/tables/tree_voids.py
-
-It reads crates/wgsl_model/nodes and the plain trees of wgsl_model. The prover checks what it
-writes.
+By hand, each statement that holds others would be in two more files.
 """
 import re
 from pathlib import Path
 
+import inputs
 from cycle_parts import LIBRARY, Cycle, imports
 from node_table import TABLE, Table, snake
 from plain_trees import OWN, constructor, is_apart
 from tree_nodes import Plain, ghost_uses, places, use_lines
 from tree_terms import bracketed
+
+READS = (inputs.NODES, inputs.TREES, inputs.SOURCES, inputs.VIEWS,
+         "crates/wgsl_tree_statement/proofs/BlockStatements.antt",
+         "crates/wgsl_tree_statement/proofs/EmptyStatements.antt",
+         "crates/wgsl_tree_statement/proofs/Views.antt")
+WRITES = ("crates/wgsl_tree_statement/src/voids_nodes.rt",
+          "crates/wgsl_tree_statement/proofs/+remove/*.antt")
 
 CRATE = Path("crates/wgsl_tree_statement")
 WRITTEN = f"Written by tools/tables/tree_voids.py from {TABLE}"
@@ -308,7 +310,3 @@ def main():
     (CRATE / "src/voids_nodes.rt").write_text(code.text())
     (proofs / "Answers.antt").write_text(answers.text())
     (proofs / "Invariants.antt").write_text(answers.invariants())
-
-
-if __name__ == "__main__":
-    main()

@@ -1,18 +1,16 @@
-#!/usr/bin/env python3
 """Writes the enums of words of wgsl_tree_words, with the words that they are read from and printed
 as, what they are as plain data, and the words of wgsl_tree_packed.
-
-Run it at the top of the repository, and `rt fmt` in the crates that it writes after it:
-
-    tools/tables/tree_words.py
-
-It reads crates/wgsl_model/nodes. The prover checks that the words are those of the definitions.
 """
 import re
 from pathlib import Path
 
+import inputs
 from node_table import TABLE, Table, snake
 from tree_codes import plain_doc
+
+READS = (inputs.NODES,)
+WRITES = ("crates/wgsl_tree_words/src/words_nodes.rt",
+          "crates/wgsl_tree_words/specs/ViewNodes.antt", "crates/wgsl_tree_packed/src/words.rt")
 
 CRATE = Path("crates/wgsl_tree_words")
 MODULE = "words_nodes"
@@ -142,7 +140,3 @@ def main():
     (CRATE / f"src/{MODULE}.rt").write_text(code(kinds))
     (CRATE / "specs/ViewNodes.antt").write_text(views(kinds))
     PACKED.write_text(packed(kinds))
-
-
-if __name__ == "__main__":
-    main()
