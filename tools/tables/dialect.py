@@ -6,8 +6,10 @@ import re
 import textwrap
 from pathlib import Path
 
+import goals
 import inputs
 import token_table
+from goals import c, proof
 from tables import DIALECTS, Tables, rules
 
 READS = (inputs.TOKENS, inputs.FACTORED)
@@ -374,18 +376,24 @@ def rules_text(order, homes, own):
 
 
 def answers(name, found):
-    lines = ["-- Each rule has the steps of its symbol, written by tools/tables/dialect.py.", "use Rattle.wgsl_read_dialect.specs.Steps.{rule_steps}",
-             "use Rattle.wgsl_read_dialect.proofs.Views.{choice_is, repeat_is}", f"use Rattle.wgsl_read_dialect.proofs.rules.{name}_side.Goals as goal"]
+    """The proofs that each rule has the steps of its symbol."""
+    texts = ["-- Each rule has the steps of its symbol, written by tools/tables/dialect.py.",
+             "use Rattle.wgsl_read_dialect.specs.Steps.{rule_steps}",
+             "use Rattle.wgsl_read_dialect.proofs.Views.{choice_is, repeat_is}",
+             f"use Rattle.wgsl_read_dialect.proofs.rules.{name}_side.Goals as goal", ""]
     for n, steps in found.items():
-        goal = f"returns-in-{camel(n)}"
-        kinds = set(kinds_in(steps))
-        laws = [f"c.in-{camel(n)}.is"] + [law for kind, law in (("Choice", "choice_is"), ("Repeat", "repeat_is")) if kind in kinds]
+        laws = [str(c.arm(camel(n)).of("is"))]
         choices = [step for step in steps if step[0] == "Choice"]
-        tactic = "simp"
+        tactic = "simp" if len(choices) < 2 else "rw"
         if len(choices) > 1:
-            tactic, laws = "rw", laws[:1] + ["choice_is"] * len(choices)
-        lines += ["", f"pub {goal} : goal.{goal}", "unfolding rule_steps", f"{goal} c = {tactic} {laws[0] if len(laws) == 1 else '(' + ', '.join(laws) + ')'}"]
-    return "\n".join(lines + [""])
+            laws += ["choice_is"] * len(choices)
+        else:
+            kinds = set(kinds_in(steps))
+            laws += [f"{it.lower()}_is" for it in ("Choice", "Repeat") if it in kinds]
+        by = laws[0] if len(laws) == 1 else f"({', '.join(laws)})"
+        texts.append(proof(goals.returns("", goals.arm(camel(n))), f" {tactic} {by}", "c",
+                           "unfolding rule_steps\n"))
+    return "\n".join(texts)
 
 
 def steps_in(language, steps):

@@ -6,6 +6,8 @@ By hand, each struct that is printed would have one more file.
 import re
 from pathlib import Path
 
+import goals
+from goals import c, proof
 from node_table import sources
 
 READS = ("crates/wgsl_tree_statement/src/*.rt", "!*_nodes.rt")
@@ -19,16 +21,17 @@ DISPLAY = re.compile(
 def answer(module, name, function):
     """The proof of a type."""
     place = f"Rattle.{CRATE.name}.proofs.{module}.{name}Display.fmt"
+    new, inner = c.outcome("new", "out").ensures(), c.of("into_inner")
+    written = c.outcome(function).ensures()
     return "\n".join([
         "-- Written by tools/tables/display_answers.py.",
         "use Rattle.std.proofs.Common.{rules}",
         "use Rattle.wgsl_writer.proofs.Within.{printed}",
         f"use {place}.Goals as goal", "",
-        "pub returns-clause-writes : goal.returns-clause-writes",
-        "returns-clause-writes g c = printed g.W.Write.write_str_gives _ _ _ "
-        "c.into_inner.result _ _ _",
-        f"    c.new-out.ensures.to c.new-out.ensures.depth c.{function}-outcome.ensures "
-        "c.into_inner.ensures", "    (λ same. search rules)", ""])
+        proof(goals.returns("", goals.clause("writes")),
+              f" printed g.W.Write.write_str_gives _ _ _ {inner.of('result')} _ _ _\n"
+              f"    {new.of('to')} {new.of('depth')} {written} {inner.ensures()}\n"
+              "    (λ same. search rules)", "g c")])
 
 
 def main():

@@ -7,9 +7,11 @@ cycle_copies.py.
 import re
 from pathlib import Path
 
+import goals
 import inputs
 from cycle_copies import ROOTS, answers_of_cycle, own_functions
 from cycle_parts import Cycle, Part
+from goals import c, proof
 from node_table import TABLE, Table
 from tree_nodes import COPIED, ghost_uses, places, use_lines, views
 
@@ -141,15 +143,12 @@ class Copies:
     def answers(self, kind):
         """The proof that a copy is seen as its node is, where a field is a list or a type that may
         be left out; search finds the others."""
-        calls, lines, lemmas, seen, hard = 0, [], set(), set(), False
-        for name, held in kind.parts:
-            if not self.copy(held, name).endswith(".clone_with(alloc)?"):
-                continue
-            calls += 1
+        copied = [it for it in kind.parts if self.copy(it[1], "").endswith(".clone_with(alloc)?")]
+        lines, lemmas, seen, hard = [], set(), set(), False
+        for (name, held), call in zip(copied, goals.in_order(["clone_with"] * len(copied))):
             if held[-1] in "*?":
                 hard = hard or held != "Expression?"
-                call = f"clone_with-{calls}" if calls > 1 else "clone_with"
-                lemma, part, cited = self.shown(name, held, f"c.in_ok-{call}.ensures.copy")
+                lemma, part, cited = self.shown(name, held, c.ok(call).ensures("copy"))
                 lemmas.add(lemma)
                 seen |= {part} if part else set()
                 lines += cited
@@ -163,10 +162,10 @@ class Copies:
         return "\n".join([
             f"-- Written by tools/tables/tree_copies.py from {TABLE}.",
             "use Rattle.std.proofs.Common.{rules}", *uses,
-            f"use {LEMMAS}.{{{', '.join(lemmas)}}}", 
+            f"use {LEMMAS}.{{{', '.join(lemmas)}}}",
             f"use {proofs}.{kind.name}CloneWith.clone_with.Goals as goal", "",
-            "pub returns : goal.returns", "returns c =", "    let original = c.args.self.now in",
-            *lines, "    search rules", ""])
+            proof(goals.returns(), "\n".join([
+                "", f"    let original = {c.given('self')} in", *lines, "    search rules"]), "c")])
 
 
 def main():
