@@ -47,6 +47,13 @@ def source(path):
     return "".join([*map(source, files), text])
 
 
+def constructors(path, name):
+    """The names that a `data` declares, in order."""
+    block = re.search(rf"^pub data {name} : .*\n((?: .*\n)+)", path.read_text(), re.M)[1]
+    lines = [line for line in block.splitlines() if not line.lstrip().startswith("--")]
+    return [name for line in lines for name in line.split(" : ")[0].split()]
+
+
 def last(name):
     """A name without the module or the type before it; what projects stays."""
     parts = name.split(".")
