@@ -21,6 +21,9 @@ TREES = "Rattle.wgsl_model.specs.Trees"
 CODE = ["Code", "text", "natural", "boolean", "number", "absent", "list", "Codes", "no_codes",
         "code_before", "node_of", "variant", "list_of", "optional", "pair_of", "placed",
         "attributed_code"]
+# the functions that give the codes of what holds no nodes
+SIMPLE = {"String": "text", "Ident": "text", "bool": "boolean", "u32": "natural", "i32": "number",
+          "i64": "number"}
 BLOCK = "block_code attributes (statements_code statements)"
 
 
@@ -31,15 +34,22 @@ def files(table):
 
 
 def own_name(held):
-    """The name of the function for a list or an optional part that has a type of its own."""
-    return coded(OWN[held][0] if held != "TemplateArg*" else "TemplateExpressions")
+    """The name of a list or an optional part that has a type of its own."""
+    return "TemplateExpressions" if held == "TemplateArg*" else OWN[held][0]
+
+
+def own_types(table, names):
+    """The lists and optional parts of some kinds that have types of their own."""
+    helds = {held for kind in table.kinds if kind.name in CONSTRUCTED for _, held in kind.parts}
+    helds |= {held[:-1] for held in helds if held[:-1] in OWN}
+    return [held for held in OWN if held in helds and re.match(r"\w+", held)[0] in names]
 
 
 def of_item(table, held):
     """The function that gives the code of a value of a type."""
     kind = table.by_name.get(held)
-    if held in ("String", "Ident"):
-        return "text"
+    if held in SIMPLE:
+        return SIMPLE[held]
     if held.startswith("("):
         first, second = separated(held[1:-1])
         return f"(λ p. pair_of ({value(table, first, 'p.0')}) ({value(table, second, 'p.1')}))"
@@ -52,7 +62,7 @@ def value(table, held, place, own=False):
     """The code of a value of a type; in a tree made by constructors some types are its own."""
     if own and held in OWN:
         front = "list " if held.endswith("*") else ""
-        inner = f"{own_name(held)} {place}"
+        inner = f"{coded(own_name(held))} {place}"
         return f"{front}({inner})" if front else inner
     if held == "Attribute*":
         return f"attributes_code {place}"
@@ -60,8 +70,7 @@ def value(table, held, place, own=False):
         return f"optional {parenthesized(function(table, held[:-1]))} {place}"
     if held.endswith("*"):
         return f"list_of {of_item(table, held[:-1])} {place}"
-    simple = {"bool": "boolean", "u32": "natural", "i32": "number", "i64": "number"}
-    return f"{simple.get(held) or of_item(table, held)} {place}"
+    return f"{of_item(table, held)} {place}"
 
 
 def function(table, held):
@@ -180,12 +189,8 @@ def spanned_function(kind):
 
 def own_functions(table, kinds):
     """The codes of the lists and of the optional parts that have types of their own."""
-    helds = {held for kind in table.kinds if kind.name in CONSTRUCTED for _, held in kind.parts}
-    helds |= {held[:-1] for held in helds if held[:-1] in OWN}
-    for held, (type_, none, one) in OWN.items():
-        if held not in helds or re.match(r"\w+", held)[0] not in kinds:
-            continue
-        name = own_name(held)
+    for held in own_types(table, kinds):
+        (type_, none, one), name = OWN[held], coded(own_name(held))
         if held.endswith("*"):
             item = f"{of_item(table, held[:-1])} x"
             if held == "TemplateArg*":

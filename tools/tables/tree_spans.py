@@ -7,10 +7,10 @@ import inputs
 from node_table import TABLE, Table, separated, snake
 from plain_trees import (CONSTRUCTED, INLINE, OWN, SPANLESS, UNATTRIBUTED, bare, coded, constructor,
                          is_apart)
-from tree_codes import files
+from tree_codes import SIMPLE, files, own_name, own_types
 from tree_readers import homes, lemma, reader
-from tree_terms import (CODES, PROOFS, SIMPLE, Codes, Item, applied, bracketed, file_text, own_name,
-                        own_types, pattern_of, place_of)
+from tree_terms import (
+    CODES, PROOFS, Codes, Item, applied, bracketed, file_text, pattern_of, place_of)
 
 READS = (inputs.NODES, inputs.MODEL, inputs.SOURCES, "crates/wgsl_tree_code/specs/*.antt",
          "crates/wgsl_tree_code/proofs/Reading.antt", "crates/wgsl_tree_code/proofs/Spanless.antt")
