@@ -39,7 +39,7 @@ def items(text):
 
 
 def source(path):
-    """The text of a file, after those of the files written by tools from which it passes names on."""
+    """The text of a file, after those of the files by tools from which it passes names on."""
     text = path.read_text()
     passed = re.findall(r"^pub use Rattle\.([\w.]+Nodes)\.\{", text, re.M)
     files = [Path("crates", *module.split(".")).with_suffix(".antt")

@@ -16,7 +16,8 @@ WRITES = ("crates/wgsl_theory_reread/proofs/Trees/ChangedNodes.antt",)
 
 FOLDER = Path("crates/wgsl_theory_reread/proofs/Trees")
 HEAD = """\
--- Written by tools/tables/changed_trees.py from wgsl_model: a statement after a change. Its printed text
+-- Written by tools/tables/changed_trees.py from wgsl_model: a statement after a change. Its \
+printed text
 -- is the same, and changed twice it is changed once, if that is so of the parts.
 """
 CHANGED = "Rattle.wgsl_theory_reread.proofs.Trees.Changed"

@@ -107,18 +107,23 @@ def capitals(n):
     return n[1].upper()
 
 
-# the last written symbol of the first two parts of the grammar, and the further symbols of all but the units
+# the last written symbol of the first two parts of the grammar, and the further symbols of all but
+# the units
 LAST = {"expressions": "lhs_expression", "statements": "for_update"}
 FURTHER = {
-    "expressions": ["template_", "argument_", "components", "factors", "summands", "sum_rest", "relation_rest", "and_rest",
-                    "or_rest", "bitwise_", "expression_rest", "left_side_in_parentheses", "prefixed_left_side"],
-    "statements": ["selectors", "statement_rest", "loop_", "continuing_", "clause_", "else_rest", "init_part",
-                   "condition_part", "update_part", "braced_part", "ended_part"],
-    "simple": ["returning_part", "local_part", "value_part", "phony_part", "simple_part", "assert_part",
-               "left_side_rest", "name_rest_statement", "parenthesized_statement", "plain_statement"],
+    "expressions": """template_ argument_ components factors summands sum_rest relation_rest
+        and_rest or_rest bitwise_ expression_rest left_side_in_parentheses prefixed_left_side""",
+    "statements": """selectors statement_rest loop_ continuing_ clause_ else_rest init_part
+        condition_part update_part braced_part ended_part""",
+    "simple": """returning_part local_part value_part phony_part simple_part assert_part
+        left_side_rest name_rest_statement parenthesized_statement plain_statement""",
 }
-SAYS = {"expressions": "The rules of names, expressions and templates", "statements": "The rules of statements and their blocks",
-        "units": "The rules of attributes, declarations, directives and units", "simple": "The rules of statements that hold no others"}
+SAYS = {
+    "expressions": "The rules of names, expressions and templates",
+    "statements": "The rules of statements and their blocks",
+    "units": "The rules of attributes, declarations, directives and units",
+    "simple": "The rules of statements that hold no others",
+}
 # the part with the rules of the language that is parsed that are others in the smaller one
 OWN = "parsed"
 OWN_SAYS = "The rules of the language that is parsed where the smaller one has others"
@@ -238,7 +243,8 @@ def in_parts(order, needed):
             if n[1] == LAST.get(names[at]):
                 at += 1
         else:
-            home = [part for part, starts in FURTHER.items() if n[1].startswith(tuple(starts))]
+            home = [part for part, starts in FURTHER.items()
+                    if n[1].startswith(tuple(starts.split()))]
             parts[home[0] if home else "units"].append(n)
     parts["statements"] = [n for n in parts["statements"] if n[1] != "attribute"]
     parts["units"].insert(0, ("of", "attribute"))
@@ -256,13 +262,16 @@ class Writer:
         for n, steps in found.items():
             for classes in self.sets(steps):
                 users.setdefault(tuple(classes), []).append(n)
-        shared = [classes for classes, symbols in users.items() if len(classes) > 2 and len(symbols) > 1]
+        shared = [it for it, symbols in users.items() if len(it) > 2 and len(symbols) > 1]
         self.names = {classes: self.name(classes, users) for classes in shared}
         home = {n: part for part, symbols in reversed(parts.items()) for n in symbols}
-        self.homes = {self.names[classes]: min((home[n] for n in users[classes]), key=list(parts).index) for classes in shared}
+        first = list(parts).index
+        self.homes = {self.names[classes]: min((home[n] for n in users[classes]), key=first)
+                      for classes in shared}
 
     def name(self, classes, users):
-        """The name of a set: by the first symbols before which it is asked for, else by the rule that goes on with it."""
+        """The name of a set: by the first symbols before which it is asked for, else by the rule
+        that goes on with it."""
         for steps in self.found.values():
             for step in self.choices(steps):
                 symbols = self.first_symbols(step[2])
@@ -275,9 +284,11 @@ class Writer:
         does, symbols = name.lower().split("_", 1)
         if does == "continues":
             return f"The tokens with which {MEANT[symbols]} goes on"
-        parts = [rest for rest in MEANT if symbols.endswith(f"_{rest}") and symbols.removesuffix(f"_{rest}") in MEANT]
-        several = [symbols.removesuffix(f"_{rest}") for rest in parts[:1]] + (parts[:1] or [symbols])
-        return f"The tokens that begin {' or '.join(re.sub(', (with|none|after) .*', '', MEANT[it]) for it in several)}"
+        several = next(([symbols.removesuffix(f"_{rest}"), rest] for rest in MEANT
+                        if symbols.endswith(f"_{rest}")
+                        and symbols.removesuffix(f"_{rest}") in MEANT), [symbols])
+        meant = [re.sub(", (with|none|after) .*", "", MEANT[it]) for it in several]
+        return f"The tokens that begin {' or '.join(meant)}"
 
     def first_symbols(self, steps):
         """The symbols at the front of some steps, up to the first that cannot be empty."""
@@ -316,63 +327,89 @@ class Writer:
         return f"{step[0]}({', '.join([self.kinds(step[1])] + list(map(self.steps, step[2:])))})"
 
     def rules(self, part):
-        consts = [f"{documented(f'The steps of {MEANT[n[1]]}')}\npub const {capitals(n)}: &[Step] = {self.steps(self.found[n])};"
+        consts = [f"{documented(f'The steps of {MEANT[n[1]]}')}\n"
+                  f"pub const {capitals(n)}: &[Step] = {self.steps(self.found[n])};"
                   for n in self.parts[part]]
         body = "\n\n".join(consts)
         used = [v for v in ("Choice", "Repeat", "Rule", "Token") if v + "(" in body]
-        lines = [f"//! {SAYS.get(part, OWN_SAYS)}, written by tools/tables/dialect.py.", ""]
-        lines += [f"use crate::{home}::{name};" for name, home in self.homes.items() if home != part and re.search(rf"\b{name}\b", body)]
-        lines += ["use crate::rules::Symbol;", f"use crate::step::Step::{{self, {', '.join(used)}}};", "use wgsl_lex_token::kind::TokenKind;", ""]
+        lines = [f"//! {SAYS.get(part, OWN_SAYS)}, written by tools/tables/dialect.py.", "",
+                 *(f"use crate::{home}::{name};" for name, home in self.homes.items()
+                   if home != part and re.search(rf"\b{name}\b", body)),
+                 "use crate::rules::Symbol;",
+                 f"use crate::step::Step::{{self, {', '.join(used)}}};",
+                 "use wgsl_lex_token::kind::TokenKind;", ""]
         for classes, name in self.names.items():
             if self.homes[name] == part:
                 kinds = ", ".join(f"TokenKind::{c}" for c in classes)
-                lines += [documented(self.meant(name)), f"pub const {name}: &[TokenKind] = &[{kinds}];", ""]
+                lines += [documented(self.meant(name)),
+                          f"pub const {name}: &[TokenKind] = &[{kinds}];", ""]
         return "\n".join(lines + [body, ""])
 
 
 def symbols_text(order):
-    lines = ["/// A symbol: those of the written grammar, and after them those that are a part of a rule.",
-             "#[derive(Clone, Copy)]", "pub enum Symbol {"]
-    return lines + [f"    {camel(n)}," for n in order] + ["}", ""]
+    return ["/// A symbol: those of the written grammar, and after them those that are a part of a "
+            "rule.", "#[derive(Clone, Copy)]", "pub enum Symbol {",
+            *(f"    {camel(n)}," for n in order), "}", ""]
 
 
 def view_text(order):
-    lines = ["-- The symbols of the code as those of the grammar, written by tools/tables/dialect.py."]
-    lines += [f"use Rattle.wgsl_model.specs.Grammar.Symbols.{{{', '.join('Symbol.' + n[1] for n in order if n[0] == 'of')}}}"]
-    lines += [f"use Rattle.wgsl_theory_grammar.specs.Factored.{{FactoredSymbol, FactoredSymbol.of, FactoredSymbol.further, {', '.join('Further.' + n[1] for n in order if n[0] == 'further')}}}"]
-    lines += ["use Rattle.wgsl_read_dialect.specs.declared.rules.Symbol.{Symbol}",
-              "use Rattle.wgsl_read_dialect.specs.declared.rules.Symbol.TheVariants as variant", "",
-              "-- which symbol it is", "abbrev pub symbol_view : Symbol → FactoredSymbol"]
-    lines += [f"symbol_view variant.{camel(n)} = {n[0]} {n[1]}" for n in order]
-    return "\n".join(lines + [""])
+    written, further = ([n[1] for n in order if n[0] == kind] for kind in ("of", "further"))
+    symbols = ", ".join(f"Symbol.{it}" for it in written)
+    factored = ["FactoredSymbol", "FactoredSymbol.of", "FactoredSymbol.further",
+                *(f"Further.{it}" for it in further)]
+    declared = "use Rattle.wgsl_read_dialect.specs.declared.rules.Symbol"
+    return "\n".join([
+        "-- The symbols of the code as those of the grammar, written by tools/tables/dialect.py.",
+        f"use Rattle.wgsl_model.specs.Grammar.Symbols.{{{symbols}}}",
+        f"use Rattle.wgsl_theory_grammar.specs.Factored.{{{', '.join(factored)}}}",
+        f"{declared}.{{Symbol}}", f"{declared}.TheVariants as variant", "",
+        "-- which symbol it is", "abbrev pub symbol_view : Symbol → FactoredSymbol",
+        *(f"symbol_view variant.{camel(n)} = {n[0]} {n[1]}" for n in order), ""])
 
 
 def side_text(name, language, homes):
     """The function that has the steps of each symbol in a language, by the part with its rule."""
-    lines = [f"/// Returns the steps of a symbol in {language}.", f"fn {name}_side(symbol: Symbol) -> &'static [Step]",
-             f"    ensures {{ steps_view result.now ≡ rule_steps {name} (symbol_view symbol) }}", "{", "    match symbol {"]
-    lines += [f"        Symbol::{camel(n)} => {part}::{capitals(n)}," for n, part in homes.items()]
-    return lines + ["    }", "}", ""]
+    return [f"/// Returns the steps of a symbol in {language}.",
+            f"fn {name}_side(symbol: Symbol) -> &'static [Step]",
+            f"    ensures {{ steps_view result.now ≡ rule_steps {name} (symbol_view symbol) }}",
+            "{", "    match symbol {",
+            *(f"        Symbol::{camel(n)} => {part}::{capitals(n)}," for n, part in homes.items()),
+            "    }", "}", ""]
+
+
+RULES_HEAD = """\
+//! The symbols of the grammar in which one token decides, and the steps of each,
+//! written by tools/tables/dialect.py.
+
+ghost use Rattle.std.specs.Prelude.{◌≡◌};
+ghost use Rattle.wgsl_model.specs.Grammar.Symbols.{Dialect.parsed, Dialect.recognized};
+ghost use Rattle.wgsl_read_dialect.specs.Dialects.{dialect_view};
+ghost use Rattle.wgsl_read_dialect.specs.Steps.{rule_steps};
+ghost use Rattle.wgsl_read_dialect.specs.Symbols.{symbol_view};
+ghost use Rattle.wgsl_read_dialect.specs.View.{steps_view};
+
+use crate::dialect::Dialect;"""
+RIGHT_SIDE = """\
+/// Returns the steps of a symbol in a dialect.
+pub fn right_side(dialect: Dialect, symbol: Symbol) -> &'static [Step]
+    ensures { steps_view result.now ≡ rule_steps (dialect_view dialect) (symbol_view symbol) }
+{
+    match dialect {
+        Dialect::Parsed => parsed_side(symbol),
+        Dialect::Recognized => recognized_side(symbol),
+    }
+}
+"""
 
 
 def rules_text(order, homes, own):
-    lines = ["//! The symbols of the grammar in which one token decides, and the steps of each,",
-             "//! written by tools/tables/dialect.py.", "",
-             "ghost use Rattle.std.specs.Prelude.{◌≡◌};",
-             "ghost use Rattle.wgsl_model.specs.Grammar.Symbols.{Dialect.parsed, Dialect.recognized};",
-             "ghost use Rattle.wgsl_read_dialect.specs.Dialects.{dialect_view};",
-             "ghost use Rattle.wgsl_read_dialect.specs.Steps.{rule_steps};",
-             "ghost use Rattle.wgsl_read_dialect.specs.Symbols.{symbol_view};",
-             "ghost use Rattle.wgsl_read_dialect.specs.View.{steps_view};", "",
-             "use crate::dialect::Dialect;"]
-    lines += [f"use crate::{part};" for part in [*SAYS, OWN]]
-    lines += ["use crate::step::Step;", "", *symbols_text(order),
-              "/// Returns the steps of a symbol in a dialect.", "pub fn right_side(dialect: Dialect, symbol: Symbol) -> &'static [Step]",
-              "    ensures { steps_view result.now ≡ rule_steps (dialect_view dialect) (symbol_view symbol) }", "{",
-              "    match dialect {", "        Dialect::Parsed => parsed_side(symbol),",
-              "        Dialect::Recognized => recognized_side(symbol),", "    }", "}", ""]
-    lines += side_text("parsed", "the language that is parsed", {n: OWN if n in own else part for n, part in homes.items()})
-    return "\n".join(lines + side_text("recognized", "the smaller language", homes))
+    """The file of the symbols, with the steps of each."""
+    parsed = {n: OWN if n in own else part for n, part in homes.items()}
+    return "\n".join([
+        RULES_HEAD, *(f"use crate::{part};" for part in [*SAYS, OWN]), "use crate::step::Step;", "",
+        *symbols_text(order), RIGHT_SIDE,
+        *side_text("parsed", "the language that is parsed", parsed),
+        *side_text("recognized", "the smaller language", homes)])
 
 
 def answers(name, found):
@@ -409,7 +446,8 @@ def main():
     steps = Steps(tables, {c: i for i, c in enumerate(classes)})
     found = {language: steps_in(language, steps) for language in DIALECTS}
     needed = set.union(*(reached(every, ("of", "unit")) for every in found.values()))
-    found = {language: {n: s for n, s in every.items() if n in needed} for language, every in found.items()}
+    found = {language: {n: it for n, it in every.items() if n in needed}
+             for language, every in found.items()}
     parsed, smaller = found["parsed"], found["recognized"]
     own = {n: s for n, s in parsed.items() if s != smaller[n]}
     parts = in_parts(smaller, needed)

@@ -137,7 +137,8 @@ def laws(nodes, specs):
     for kind in nodes.table.of_form("struct"):
         if nodes.homes[kind.name][0] == "attribute":
             name = specs.equal(kind.name).removeprefix("equal_")
-            doc = f"Two values of `{kind.name}` are equal exactly if they are the same ignoring spans."
+            doc = (f"Two values of `{kind.name}` are equal exactly if they are the same ignoring "
+                   "spans.")
             yield Law("attribute_equality", name, (kind.name,), "", doc)
 
 

@@ -26,8 +26,8 @@ class Kind:
 
 
 class Table:
-    """The kinds in the order of the table, the section of each, what it says of fields and variants,
-    and the examples of the variants of each enum."""
+    """The kinds in the order of the table, the section of each, what it says of fields and
+    variants, and the examples of the variants of each enum."""
 
     def __init__(self):
         self.sections = sections()

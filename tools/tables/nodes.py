@@ -65,7 +65,7 @@ def field_doc(table, kind, name, held):
 
 
 def variant_doc(table, kind, name, held):
-    """What a variant is: as the table says it of the variant or of what it holds, or by its name."""
+    """What a variant is: as the table says it of it or of what it holds, or by its name."""
     inside = table.by_name.get(held)
     if table.doc(kind, name):
         return table.doc(kind, name)
@@ -270,7 +270,8 @@ def write_variants(table):
             starts.setdefault(name, set()).add(follows(held))
     text = ""
     for kind in table.of_form("enum"):
-        names = [f'"{name}{follows(held) if len(starts[name]) > 1 else ""}"' for name, held in kind.parts]
+        names = [f'"{name}{follows(held) if len(starts[name]) > 1 else ""}"'
+                 for name, held in kind.parts]
         names = textwrap.fill(", ".join(names), 92, break_long_words=False, break_on_hyphens=False)
         text += f'    {{"{kind.name}",\n     {{' + names.replace("\n", "\n      ") + "}},\n"
     fill(KINDS, "\nstatic const struct kinds enums[] = {\n", text, "};\n")

@@ -79,7 +79,8 @@ def lemma_of(theory, symbol, rule):
     if term is None:
         sys.exit(f"tools/tables/rule_terms.py: no term for {name}: a part of its rule has no lemma")
     seen = "pub " if symbol in theory.form.untold else ""
-    return name, wrapped(f"{seen}{name} :", says) + "\n" + wrapped(f"{name}{theory.form.binds} =", term)
+    proof = wrapped(f"{name}{theory.form.binds} =", term)
+    return name, wrapped(f"{seen}{name} :", says) + "\n" + proof
 
 
 def write(form, grammar):

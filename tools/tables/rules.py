@@ -73,8 +73,8 @@ def factored(parts, *others):
 
 def rules(what, symbols, parts):
     """The words for what right sides read."""
-    head = (f"-- What the symbols of {what} that are cited read by their right sides, each as a word "
-            "of its own, which no computation opens; written by tools/tables/rules.py.\n"
+    head = (f"-- What the symbols of {what} that are cited read by their right sides, each as a "
+            "word of its own, which no computation opens; written by tools/tables/rules.py.\n"
             + imports("grammar.specs.States", "State", "Read", "go")
             + symbols_of(["Value", *(f"Symbol.{it}" for it in symbols)])
             + factored(parts, "FurtherValue", "body")

@@ -203,8 +203,8 @@ def homes(name, files):
 
 def write(name, says, body, paths):
     """Writes a file."""
-    text = "\n".join([f"-- Written by tools/tables/statement_links.py: {says}.", *imports(body, paths),
-                      "", body, ""])
+    head = f"-- Written by tools/tables/statement_links.py: {says}."
+    text = "\n".join([head, *imports(body, paths), "", body, ""])
     (FORMS / f"{name}.antt").write_text(text)
 
 

@@ -54,8 +54,8 @@ def listed(comma, part):
     return node("choice", separated, mapped(separated, token([comma])))
 
 
-# what the words of the notation make of their arguments, and its signs of their sides: what is on the
-# right of some is not read
+# what the words of the notation make of their arguments, and its signs of their sides: what is on
+# the right of some is not read
 WORDS = {
     "empty": lambda value: EMPTY,
     "token": token,

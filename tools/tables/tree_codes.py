@@ -28,7 +28,7 @@ BLOCK = "block_code attributes (statements_code statements)"
 
 
 def files(table):
-    """The files, what each has, the module of its plain trees, and the kinds whose trees are there."""
+    """The files: what each has, the module of its plain trees, and the kinds of these."""
     names = by_module(table)
     return [(codes, what, plain, names[codes]) for codes, what, plain in MODULES]
 

@@ -122,7 +122,8 @@ class Copies:
             prelude = ["ghost use Rattle.std.specs.Option.{option_map};",
                        "ghost use Rattle.std.specs.Prelude.{◌≡◌, IfOk, map};"]
         return "\n".join([
-            f"//! Written by tools/tables/tree_copies.py from {TABLE}: copies of nodes.", "", *prelude,
+            f"//! Written by tools/tables/tree_copies.py from {TABLE}: copies of nodes.", "",
+            *prelude,
             *ghost_uses(f"wgsl_tree_{self.crate}.specs.View", names), "",
             *self.uses(text), "", text])
 

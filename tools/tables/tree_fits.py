@@ -19,7 +19,8 @@ READS = (inputs.TOKENS, inputs.PRINTED, inputs.PIECES,
 WRITES = ("crates/wgsl_theory_printed/proofs/Fits/FittingNodes.antt",)
 
 HEAD = """\
--- Written by tools/tables/tree_fits.py from wgsl_model: statements whose names and literals are spelled as
+-- Written by tools/tables/tree_fits.py from wgsl_model: statements whose names and literals are \
+spelled as
 -- they are printed: the pieces of these fit.
 """
 FILES = ["FittingStatements", "FittingAttributes", "FittingExpressions", "FittingSigns",

@@ -12,6 +12,7 @@ from node_table import TABLE, TREES, WORDS, Table, snake, sources
 READS = (inputs.NODES, inputs.TREES, inputs.SOURCES, inputs.VIEWS)
 WRITES = ("crates/wgsl_tree_*/src/variants_nodes.rt", "crates/wgsl_tree_*/specs/VariantsNodes.antt")
 
+WRITTEN = f"Written by tools/tables/tree_nodes.py from {TABLE}"
 PLAIN = Path("crates/wgsl_model/specs")
 # the constructors whose names are not those of their variants
 CONSTRUCTORS = {"Bool": "boolean", "Struct": "structure"}
@@ -149,7 +150,7 @@ def tested(enum, variant):
 def spec(found):
     """The file that says which variant a plain tree is; the definitions of the printed text say it
     of an empty one."""
-    lines = [f"-- Written by tools/tables/tree_nodes.py from {TABLE}: which variant a plain tree is.",
+    lines = [f"-- {WRITTEN}: which variant a plain tree is.",
              "use Rattle.std.specs.Prelude.{Bool, true, false}",
              f"use Rattle.wgsl_model.specs.{found[0].view.file} as plain", ""]
     for enum in found:
@@ -272,7 +273,7 @@ class Writer:
 
     def code(self):
         """The file of the functions."""
-        head = (f"//! Written by tools/tables/tree_nodes.py from {TABLE}: which variant a node is,\n"
+        head = (f"//! {WRITTEN}: which variant a node is,\n"
                 "//! what it holds, and what becomes one.\n")
         texts = [text for enum in self.enums for text in self.functions(enum)]
         return "\n".join([head, *self.ghosts(), "", *self.uses(), "", *texts])

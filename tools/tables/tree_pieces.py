@@ -19,7 +19,8 @@ WRITES = ("crates/wgsl_theory_printed/proofs/TreePieces/PiecesNodes.antt",)
 THEORY = Path("crates/wgsl_theory_printed/proofs")
 TOKENS = Path("crates/wgsl_theory_reread/specs/CanonicalStatements.antt")
 HEAD = """\
--- Written by tools/tables/tree_pieces.py from wgsl_model: the pieces of printed statements, some levels of
+-- Written by tools/tables/tree_pieces.py from wgsl_model: the pieces of printed statements, some \
+levels of
 -- indentation deep and before the pieces that follow: they print them and have their tokens.
 """
 FILES = ["TreePieces/PiecesOfStatements", "TreePieces/PiecesOfExpressions", "TreePieces/Printing"]
@@ -116,7 +117,7 @@ class Pieces:
                 (variable,), found = steps[0][2], {}
                 if match(self.unfolded(antt.term(given)[2][0]), term, {variable}, found):
                     return f"{name} {found[variable][1]}"
-        return sys.exit("tools/tables/tree_pieces.py: no lemma says that an indented text is not empty")
+        return sys.exit("tools/tables/tree_pieces.py: no lemma says that a text is not empty")
 
     def unfolded(self, term):
         """The text of a statement as its parts; others are left."""

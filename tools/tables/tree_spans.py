@@ -159,7 +159,8 @@ def spanned_items(spans, kind):
     pattern, place = (f"(plain.{snake(name)} n span)", "n") if is_own else ("s", "s.node")
     type_ = f"plain.{name}" if is_own else f"Spanned plain.{kind.name}"
     without = spans.bare(kind.name).strip("()")
-    yield Item(spanless(name), f"(x : {type_}) → spanless ({coded(name)} x) ≡ {coded(name)} ({without} x)",
+    said = f"(x : {type_}) → spanless ({coded(name)} x) ≡ {coded(name)} ({without} x)"
+    yield Item(spanless(name), said,
                [(pattern, f"λ i. placed no_span ({spanless(kind.name)} {place} i)")], True)
 
 
@@ -179,7 +180,8 @@ def own_items(spans, held):
 
 def attributes_item():
     """The lemma of a list of attributes."""
-    lists = "list_spanless attribute_node_code (bare_spanned bare_attribute) attribute_node_spanless x"
+    lists = ("list_spanless attribute_node_code (bare_spanned bare_attribute) "
+             "attribute_node_spanless x")
     return Item("attributes_spanless", "(x : Attributes) → spanless (attributes_code x) "
                 "≡ attributes_code (bare_attributes x)", [("x", lists)], True)
 
@@ -230,5 +232,6 @@ def main():
         made = list(items(Spans(table), names))
         places |= {it.name: f"{CODES}.proofs.Spanless{name}" for it in made}
         if made:
-            head = f"Written by tools/tables/tree_spans.py from {TABLE}: {what.lower()} without their spans."
+            head = (f"Written by tools/tables/tree_spans.py from {TABLE}: {what.lower()} without "
+                    "their spans.")
             (PROOFS / f"Spanless{name}.antt").write_text(file_text(head, module, made, places))

@@ -35,7 +35,8 @@ class Item:
 
     def text(self, front=""):
         """Its text."""
-        clauses = [" ".join(f"{self.name} {left} = {right}".split()) for left, right in self.clauses]
+        clauses = [" ".join(f"{self.name} {left} = {right}".split())
+                   for left, right in self.clauses]
         return "\n".join([f"{front}pub {self.name} : {self.type}", *clauses])
 
     def calls(self):

@@ -229,7 +229,8 @@ class Answers:
         some, none = c.arm("Some"), c.of(goals.DEFAULT).of("is")
         lets, seen = "", CALL.ensures()
         if cycle.table.by_name[part.item].is_spanned:
-            lets = (f"    let x = {some.of('node')} in\n    let y = record x {{ node = record x.node "
+            lets = (f"    let x = {some.of('node')} in\n"
+                    "    let y = record x { node = record x.node "
                     f"{{ value = {CALL.new('self')} }} }} in\n"
                     f"    let full : {view} y ≡ full_node ({view} x) = search rules in\n")
             seen = "full"
