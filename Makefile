@@ -5,6 +5,7 @@ bin = $(DESTDIR)$(PREFIX)/bin
 man = $(DESTDIR)$(PREFIX)/share/man/man1
 headers = $(DESTDIR)$(PREFIX)/include
 libraries = $(DESTDIR)$(PREFIX)/lib
+included = wgsl.h wgsl_packed.h wgsl_packed.json
 
 .PHONY: help demo build lib tables test prove mutants programs install uninstall dist clean
 
@@ -102,17 +103,19 @@ install:
 	done
 	@if test -f build/libwgsl.a; then \
 	    install -d "$(headers)" "$(libraries)/pkgconfig" \
-	        && install -m 644 include/wgsl.h "$(headers)/wgsl.h" \
+	        && install -m 644 $(included:%=include/%) "$(headers)" \
 	        && install -m 644 build/libwgsl.a "$(libraries)/libwgsl.a" \
 	        && install -m 644 include/wgsl.pc "$(libraries)/pkgconfig/wgsl.pc" || exit 1; \
-	    echo "Installed $(libraries)/libwgsl.a, $(headers)/wgsl.h and $(libraries)/pkgconfig/wgsl.pc."; \
+	    echo "Installed $(libraries)/libwgsl.a, $(libraries)/pkgconfig/wgsl.pc, and in $(headers):"; \
+	    echo "$(included)."; \
 	fi
 
 uninstall:
 	@for program in wgsltidy wgslfmt wgslmin; do \
 	    rm -f "$(bin)/$$program" "$(man)/$$program.1"; \
 	done
-	@rm -f "$(headers)/wgsl.h" "$(libraries)/libwgsl.a" "$(libraries)/pkgconfig/wgsl.pc"
+	@for file in $(included); do rm -f "$(headers)/$$file"; done
+	@rm -f "$(libraries)/libwgsl.a" "$(libraries)/pkgconfig/wgsl.pc"
 
 dist:
 	@tools/dist

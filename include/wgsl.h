@@ -22,7 +22,7 @@
  * is read, the buffer and the answer do not overlap; and there is enough stack.
  * A text nests as deep as its brackets, blocks, template lists and prefix operators do, and each
  * takes stack while the text is read: as measured over wgsl_recognize, wgsl_check, wgsl_format,
- * wgsl_tree and wgsl_c_packed_tree, at most 2,750 bytes for a block with its statement and 1,200 for
+ * wgsl_tree and wgsl_packed_tree, at most 2,750 bytes for a block with its statement and 1,200 for
  * each other, in wgsl_minify 2,900 and 1,600, and in wgsl_tidy 1,250 for each. wgsl_nesting returns
  * how deep a text nests, and takes no such stack; nor does wgsl_print. A left operand, and what is
  * before a component or an index, takes none.
@@ -245,9 +245,7 @@ enum wgsl_token_kind {
 
 /* The exports of the library, which the functions below call. They are for languages that read no
  * header. They test no pointer and no number: none of theirs may be null, even with the number 0,
- * and what is counted has at most WGSL_GREATEST bytes. No function below calls wgsl_c_packed_tree:
- * it is wgsl_tree with the packed form of the tree, which docs/TREE.md describes, in place of
- * JSON. */
+ * and what is counted has at most WGSL_GREATEST bytes. */
 uint32_t wgsl_c_format(const uint8_t *text, size_t size, uint8_t *buffer, size_t buffer_size,
                        struct wgsl_answer *answer);
 uint32_t wgsl_c_tidy(const struct wgsl_layout *layout, const uint8_t *text, size_t size,
@@ -392,9 +390,9 @@ static inline uint32_t wgsl_recognize(const char *text, size_t size, char *buffe
                             buffer_size, answer);
 }
 
-/* Writes the tree of a kind (enum wgsl_tree_kind) that a text is, by its text form, into the
- * buffer: JSON, with each field of each node and its place, as docs/TREE.md says, and no byte 0
- * after it. WGSL_UNKNOWN where the kind is not one of these. */
+/* Writes the tree of a kind (enum wgsl_tree_kind) that a text is into the buffer, as JSON: each
+ * field of each node and its place, as docs/TREE.md says, and no byte 0 after it. WGSL_UNKNOWN where
+ * the kind is not one of these. */
 static inline uint32_t wgsl_tree(uint32_t kind, const char *text, size_t size, char *buffer,
                                  size_t buffer_size, struct wgsl_answer *answer) {
     if (!wgsl_is_memory(text, size, 1) || !wgsl_is_memory(buffer, buffer_size, 1)
@@ -405,8 +403,23 @@ static inline uint32_t wgsl_tree(uint32_t kind, const char *text, size_t size, c
                        buffer_size, answer);
 }
 
+/* Writes the tree of a kind (enum wgsl_tree_kind) that a text is, by its packed form, into the
+ * buffer: bytes from which wgsl_print prints the tree, and which the functions of wgsl_packed.h
+ * read. WGSL_UNKNOWN where the kind is not one of these. Most forms fit where the buffer is ten times
+ * as large as the text. */
+static inline uint32_t wgsl_packed_tree(uint32_t kind, const char *text, size_t size,
+                                        uint8_t *buffer, size_t buffer_size,
+                                        struct wgsl_answer *answer) {
+    if (!wgsl_is_memory(text, size, 1) || !wgsl_is_memory(buffer, buffer_size, 1)
+        || answer == NULL) {
+        return WGSL_BAD_ARGUMENT;
+    }
+    return wgsl_c_packed_tree(kind, (const uint8_t *)wgsl_at(text), size,
+                              (uint8_t *)wgsl_at(buffer), buffer_size, answer);
+}
+
 /* Writes the printed text of the node that a packed form describes into the buffer: of a tree that
- * wgsl_c_packed_tree wrote, or of a node of any kind, as docs/TREE.md says. The text does not depend
+ * wgsl_packed_tree wrote, or of a node of any kind, as docs/TREE.md says. The text does not depend
  * on the spans, and is UTF-8 if the texts in the form are. Other bytes are WGSL_REFUSED with
  * WGSL_NOT_A_FORM. */
 static inline uint32_t wgsl_print(const uint8_t *form, size_t size, char *buffer,

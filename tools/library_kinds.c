@@ -1,6 +1,6 @@
-/* Checks that the text form of one module, bindings/rust/tests/every_kind.wgsl, has each variant
-   of each enum of the trees, prints those that it lacks, and exits with 0 where it lacks none. It
-   is run at the top of the repository. */
+/* Checks that the JSON of one module, bindings/rust/tests/every_kind.wgsl, has what each rule with a
+   name of its own begins with and each word of an attribute, prints those that it lacks, and exits
+   with 0 where it lacks none. It is run at the top of the repository. */
 #include <stdio.h>
 #include <string.h>
 
@@ -8,40 +8,70 @@
 
 static const char path[] = "bindings/rust/tests/every_kind.wgsl";
 
-/* An enum and its variants. A name that two enums share has what follows it too, where that
-   differs. */
-struct kinds {
-    const char *name;
-    const char *variants[32];
+/* Written by tools/tables/packed_rules.py from crates/wgsl_model_packed/rules. */
+static const char *const starts[] = {
+    "{\"Literal\":{\"Bool\":false}}",
+    "{\"Literal\":{\"Bool\":true}}",
+    "{\"Literal\":{\"AbstractInt\":",
+    "{\"Literal\":{\"I32\":",
+    "{\"Literal\":{\"U32\":",
+    "{\"Literal\":{\"AbstractFloat\":\"",
+    "{\"Literal\":{\"F32\":\"",
+    "{\"Literal\":{\"F16\":\"",
+    "{\"Parenthesized\":{\"expression\":{\"span\":",
+    "{\"Unary\":{\"operator\":\"",
+    "{\"FunctionCall\":{\"ty\":",
+    "{\"Template\":{\"ident\":\"",
+    "{\"Chain\":[",
+    ",{\"NamedComponent\":{\"base\":",
+    ",{\"Indexing\":{\"base\":",
+    ",{\"Binary\":{\"left\":",
+    "{\"builtin\":\"",
+    "{\"diagnostic\":{\"severity\":\"",
+    "{\"interpolate\":{\"ty\":\"",
+    "{\"workgroup_size\":{\"x\":{\"span\":",
+    "{\"type\":",
+    "{\"ident\":\"",
+    "{\"custom\":{\"name\":\"",
+    "{\"var\":",
+    "{\"Declaration\":{\"attributes\":[",
+    "{\"Assignment\":{\"attributes\":[",
+    "{\"Increment\":{\"attributes\":[",
+    "{\"Decrement\":{\"attributes\":[",
+    "{\"Break\":{\"attributes\":[",
+    "{\"Continue\":{\"attributes\":[",
+    "{\"Discard\":{\"attributes\":[",
+    "{\"Return\":{\"attributes\":[",
+    "{\"FunctionCall\":{\"attributes\":[",
+    "{\"ConstAssert\":{\"attributes\":[",
+    "{\"attributes\":[",
+    "\"default\"",
+    "{\"Void\":{\"attributes\":[",
+    "{\"Compound\":{\"attributes\":[",
+    "{\"If\":{\"attributes\":[",
+    "{\"expression\":{\"span\":",
+    "{\"Switch\":{\"attributes\":[",
+    "{\"Loop\":{\"attributes\":[",
+    "{\"For\":{\"attributes\":[",
+    "{\"While\":{\"attributes\":[",
+    "{\"global_directives\":[",
+    "{\"Diagnostic\":{\"attributes\":[",
+    "{\"Enable\":{\"attributes\":[",
+    "{\"Requires\":{\"attributes\":[",
+    "{\"TypeAlias\":{\"attributes\":[",
+    "{\"Struct\":{\"attributes\":[",
+    "{\"Function\":{\"attributes\":[",
 };
 
 /* Written by tools/tables/nodes.py from crates/wgsl_model/nodes. */
-static const struct kinds enums[] = {
-    {"GlobalDirective",
-     {"Diagnostic\":{\"attributes", "Enable", "Requires"}},
-    {"GlobalDeclaration",
-     {"Void", "Declaration", "TypeAlias", "Struct", "Function", "ConstAssert"}},
-    {"DeclarationKind",
-     {"Const", "Override", "Let", "Var"}},
-    {"Expression",
-     {"Literal", "Parenthesized", "NamedComponent", "Indexing", "Unary", "Binary",
-      "FunctionCall\":{\"ty", "TypeOrIdentifier"}},
-    {"LiteralExpression",
-     {"Bool", "AbstractInt", "I32", "U32", "AbstractFloat", "F32", "F16"}},
-    {"Statement",
-     {"Void", "Compound", "Assignment", "Increment", "Decrement", "If\":{\"attributes", "Switch",
-      "Loop", "For", "While", "Break", "Continue", "Return", "Discard",
-      "FunctionCall\":{\"attributes", "ConstAssert", "Declaration"}},
-    {"CaseSelector",
-     {"Default", "Expression"}},
-    {"Attribute",
-     {"Align", "Binding", "BlendSrc", "Group", "Id", "Location", "Size", "If\":{\"span", "Elif",
-      "Builtin", "Const", "Invariant", "MustUse", "Vertex", "Fragment", "Compute", "Else",
-      "Diagnostic\":{\"severity", "Interpolate", "WorkgroupSize", "TypeConstraint", "Custom"}},
+static const char *const words[] = {
+    "\"align\"", "\"binding\"", "\"blend_src\"", "\"group\"", "\"id\"", "\"location\"", "\"size\"",
+    "\"if\"", "\"elif\"", "\"const\"", "\"invariant\"", "\"must_use\"", "\"vertex\"",
+    "\"fragment\"", "\"compute\"", "\"else\"",
 };
 
-/* Reads the module, and writes its form with a byte 0 after it; returns whether both fit. */
-static int write_form(char *form, size_t form_size) {
+/* Reads the module, and writes its JSON with a byte 0 after it; returns whether both fit. */
+static int write_json(char *json, size_t json_size) {
     static char text[1 << 14];
     struct wgsl_answer answer;
     FILE *file = fopen(path, "rb");
@@ -50,32 +80,29 @@ static int write_form(char *form, size_t form_size) {
     size = fread(text, 1, sizeof text, file);
     fclose(file);
     if (size == 0 || size == sizeof text) return 0;
-    if (wgsl_tree(WGSL_UNIT, text, size, form, form_size - 1, &answer) != WGSL_DONE) return 0;
-    form[answer.size] = 0;
+    if (wgsl_tree(WGSL_UNIT, text, size, json, json_size - 1, &answer) != WGSL_DONE) return 0;
+    json[answer.size] = 0;
     return 1;
 }
 
-static int has(const char *form, const char *variant) {
-    char quoted[64];
-    snprintf(quoted, sizeof quoted, "\"%s\"", variant);
-    return strstr(form, quoted) != NULL;
+/* Prints which of some texts the JSON lacks, and returns whether there are any. */
+static int lacks(const char *json, const char *const *text, size_t count) {
+    int found = 0;
+    for (; count > 0; count--, text++) {
+        if (strstr(json, *text) != NULL) continue;
+        fprintf(stderr, "%s: the JSON has no %s\n", path, *text);
+        found = 1;
+    }
+    return found;
 }
 
 int main(void) {
-    static char form[1 << 18];
-    const struct kinds *kinds = enums;
-    int failed = 0;
-    if (!write_form(form, sizeof form)) {
-        fprintf(stderr, "%s has no text form\n", path);
+    static char json[1 << 18];
+    int failed;
+    if (!write_json(json, sizeof json)) {
+        fprintf(stderr, "%s has no JSON\n", path);
         return 1;
     }
-    for (; kinds < enums + sizeof enums / sizeof *enums; kinds++) {
-        const char *const *variant = kinds->variants;
-        for (; *variant != NULL; variant++) {
-            if (has(form, *variant)) continue;
-            fprintf(stderr, "%s: the form has no \"%s\" of %s\n", path, *variant, kinds->name);
-            failed = 1;
-        }
-    }
-    return failed;
+    failed = lacks(json, starts, sizeof starts / sizeof *starts);
+    return lacks(json, words, sizeof words / sizeof *words) || failed;
 }

@@ -6,17 +6,17 @@
 #include "library_forms.h"
 #include "wgsl.h"
 
-/* A tree is written by its form, and no tree has another number. */
+/* A tree is written as JSON, and no tree has another number. */
 static int check_trees(void) {
-    static const char form[] =
-        "{\"NamedComponent\":{\"component\":\"b\",\"base\":{\"span\":[0,1],\"node\":"
-        "{\"TypeOrIdentifier\":{\"ident\":\"a\",\"template_args\":null}}}}}";
-    size_t size = sizeof form - 1;
+    static const char json[] =
+        "{\"Chain\":[\"a\",{\"NamedComponent\":{\"base\":[0,1],\"component\":\"b\"}}]}";
+    static const char empty[] = "{\"Void\":{\"attributes\":[]}}";
+    size_t size = sizeof json - 1;
     char buffer[256];
     CHECK(wgsl_tree(WGSL_STATEMENT, ";", 1, buffer, sizeof buffer, &answer) == WGSL_DONE);
-    CHECK(answer.size == 6 && memcmp(buffer, "\"Void\"", 6) == 0);
+    CHECK(is_size(sizeof empty - 1) && memcmp(buffer, empty, sizeof empty - 1) == 0);
     CHECK(wgsl_tree(WGSL_EXPRESSION, "a.b", 3, buffer, sizeof buffer, &answer) == WGSL_DONE);
-    CHECK(is_size(size) && memcmp(buffer, form, size) == 0);
+    CHECK(is_size(size) && memcmp(buffer, json, size) == 0);
     memset(buffer, '#', sizeof buffer);
     CHECK(wgsl_tree(5, ";", 1, buffer, sizeof buffer, &answer) == WGSL_UNKNOWN && is_size(0));
     CHECK(is_filled(buffer, sizeof buffer));
@@ -79,7 +79,7 @@ static int check_print_arguments(void) {
 }
 
 static uint32_t pack(uint32_t kind, const char *text, uint8_t *form, size_t form_size) {
-    return wgsl_c_packed_tree(kind, (const uint8_t *)text, strlen(text), form, form_size, &answer);
+    return wgsl_packed_tree(kind, text, strlen(text), form, form_size, &answer);
 }
 
 /* A tree has the packed form that its definition gives it, which is printed as the tree is; other
@@ -117,6 +117,11 @@ static int check_packed(void) {
     CHECK(pack(UINT32_MAX, "@a", form, sizeof form) == WGSL_UNKNOWN && is_size(0));
     CHECK(pack(WGSL_UNIT, "\xff", form, sizeof form) == WGSL_NOT_UTF8);
     CHECK(pack(UINT32_MAX, "\xff", form, sizeof form) == WGSL_NOT_UTF8 && is_size(0));
+    CHECK(pack(WGSL_EXPRESSION, "a.b", NULL, 0) == WGSL_TOO_SMALL && is_size(sizeof named));
+    CHECK(pack(WGSL_EXPRESSION, "a.b", NULL, 1) == WGSL_BAD_ARGUMENT);
+    CHECK(pack(WGSL_EXPRESSION, "a.b", form, SIZE_MAX) == WGSL_BAD_ARGUMENT);
+    CHECK(wgsl_packed_tree(WGSL_UNIT, NULL, 1, form, 1, &answer) == WGSL_BAD_ARGUMENT);
+    CHECK(wgsl_packed_tree(WGSL_UNIT, "", 0, form, sizeof form, NULL) == WGSL_BAD_ARGUMENT);
     return 0;
 }
 

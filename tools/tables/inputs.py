@@ -1,10 +1,10 @@
 """Sets of files that several tools read. A pattern after `!` leaves files out."""
 from node_table import TREES as CRATES
 
-# the tables of nodes and of tokens, and the rules of packed forms
+# the tables of nodes and of tokens, and the rules of packed forms with what fills their places
 NODES = ("crates/wgsl_model/nodes",)
 TOKENS = ("crates/wgsl_model/tokens",)
-RULES = ("crates/wgsl_model_packed/rules",)
+RULES = ("crates/wgsl_model_packed/rules", "crates/wgsl_model_packed/kinds")
 # all definitions of WGSL, the plain trees among them, and what is defined of names
 MODEL = ("crates/wgsl_model/specs/*.antt",)
 TREES = ("crates/wgsl_model/specs/Trees/*.antt",)

@@ -2,10 +2,9 @@
 and by what contains them. It reads crates/wgsl_model/nodes, the crates of the trees and the plain
 trees of wgsl_model."""
 import re
-from pathlib import Path
 
 from node_specs import MODEL, cycle, types
-from node_table import TREES, WORDS
+from node_table import WORDS
 from plain_trees import INLINE
 from tree_nodes import places
 
@@ -70,20 +69,3 @@ def by_module(table):
         visit(name)
     return {codes: [it for it in order if module[it] == plain and it not in INLINE]
             for codes, _, plain in MODULES}
-
-
-def shown_by():
-    """The function that gives the plain tree of each type."""
-    texts = [file.read_text() for crate in (WORDS, *TREES)
-             for pattern in ("View*.antt", "View/*.antt")
-             for file in sorted(Path(f"crates/wgsl_tree_{crate}/specs").glob(pattern))]
-    head = r"^ *(?:abbrev )?pub (\w+_view) : (\w+) → "
-    return {type_: view for text in texts for view, type_ in re.findall(head, text, re.M)}
-
-
-def alone(table, crate):
-    """The kinds that a crate declares outside of cycles, in the order of the table."""
-    at = places()
-    inside = {name for kind in table.of_form("enum") for name in cycle(table, kind.name)}
-    return [kind.name for kind in table.kinds
-            if at[kind.name].crate == crate and kind.name not in inside]

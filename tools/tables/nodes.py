@@ -255,26 +255,14 @@ def write_text(table):
     fill(TEXT, f"// Examples of the variants, {WRITTEN}\n", "\n".join(lines), "\n// What they lack")
 
 
-def write_variants(table):
-    """The variants of each enum, for C, as the text form has them between quotes: a name that enums
-    share, with what follows it where that differs."""
-    def follows(held):
-        kind = table.by_name.get(held)
-        if kind and (kind.is_spanned or kind.form == "struct"):
-            return f'\\":{{\\"{"span" if kind.is_spanned else kind.parts[0][0]}'
-        return '\\":' if held else ""
-
-    starts = {}
-    for kind in table.of_form("enum"):
-        for name, held in kind.parts:
-            starts.setdefault(name, set()).add(follows(held))
-    text = ""
-    for kind in table.of_form("enum"):
-        names = [f'"{name}{follows(held) if len(starts[name]) > 1 else ""}"'
-                 for name, held in kind.parts]
-        names = textwrap.fill(", ".join(names), 92, break_long_words=False, break_on_hyphens=False)
-        text += f'    {{"{kind.name}",\n     {{' + names.replace("\n", "\n      ") + "}},\n"
-    fill(KINDS, "\nstatic const struct kinds enums[] = {\n", text, "};\n")
+def write_words(table):
+    """The words of the attributes with an expression, and of those that are a name, for C."""
+    words = table.attribute_words()
+    names = [f'"\\"{words[name]}\\""' for name, held in table.by_name["Attribute"].parts
+             if held in ("Expression", "")]
+    names = textwrap.fill(", ".join(names), 96, break_long_words=False, break_on_hyphens=False)
+    text = "    " + names.replace("\n", "\n    ") + ",\n"
+    fill(KINDS, "\nstatic const char *const words[] = {\n", text, "};\n")
 
 
 def main():
@@ -285,4 +273,4 @@ def main():
     write_rust(table)
     write_packed(table)
     write_text(table)
-    write_variants(table)
+    write_words(table)

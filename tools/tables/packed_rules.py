@@ -1,42 +1,95 @@
-"""Writes the rules of the packed form, and their numbers: the definition of the rules, the table of
-them that the library prints by, and their numbers for the writer of the library and for the Rust
-crate, with the places of each for that.
+"""Writes the rules of the packed form, and their numbers: the definition of the rules and of their
+JSON, the tables of both that the library prints by, and their numbers for the writer of the library
+and for the Rust crate, with the places of each for that.
+
+It puts a table of them into docs/TREE.md, and how the JSON of each begins into
+tools/library_kinds.c. It fails if the JSON of a rule has other places than its text.
 """
+import json
 import re
 import textwrap
 from pathlib import Path
+from typing import NamedTuple
 
 import inputs
+
 READS = (inputs.RULES,)
-WRITES = ("crates/wgsl_model_packed/specs/Rules.antt", "crates/wgsl_print_packed/src/rules.rt",
-          "crates/wgsl_tree_packed/src/rules.rt", "bindings/rust/src/packed/rules.rs")
+WRITES = ("crates/wgsl_model_packed/specs/Rules.antt",
+          "crates/wgsl_model_packed/specs/JsonRules.antt", "crates/wgsl_print_packed/src/rules.rt",
+          "crates/wgsl_tree_packed/src/rules.rt", "bindings/rust/src/packed/rules.rs",
+          "docs/TREE.md", "tools/library_kinds.c")
 
 RULES = Path("crates/wgsl_model_packed/rules")
 SPECS = Path("crates/wgsl_model_packed/specs/Rules.antt")
+JSON = Path("crates/wgsl_model_packed/specs/JsonRules.antt")
 TABLE = Path("crates/wgsl_print_packed/src/rules.rt")
 NUMBERS = Path("crates/wgsl_tree_packed/src/rules.rt")
 BINDING = Path("bindings/rust/src/packed/rules.rs")
+DOCUMENT = Path("docs/TREE.md")
+TEST = Path("tools/library_kinds.c")
 BY = "Written by tools/tables/packed_rules.py from crates/wgsl_model_packed/rules"
 
+# how many columns the codes of a text have in a line
+LONGEST = 110
 LINE = re.compile(r'(\w+) ("(?:[^"\\]|\\.)*") -- (.*)')
 
 
+class Rule(NamedTuple):
+    """A rule: its name, its text as it is quoted, what it is for, and its JSON."""
+    name: str
+    text: str
+    what: str
+    json: str = ""
+
+
 def read():
-    """The rules in their order: the name of each, its text as it is quoted, and what it is for."""
-    lines = [line for line in RULES.read_text().splitlines()
-             if line and not line.startswith(("--", "#"))]
-    found = [LINE.fullmatch(line) for line in lines]
-    if None in found:
-        raise SystemExit(f"{RULES}: {lines[found.index(None)]!r} is not a rule")
-    return [it.groups() for it in found]
+    """The rules in their order."""
+    rules = []
+    for line in RULES.read_text().splitlines():
+        if not line or line.startswith(("--", "#")):
+            continue
+        if line.startswith("    "):
+            rules[-1] = rules[-1]._replace(json=line.strip())
+        elif it := LINE.fullmatch(line):
+            rules.append(Rule(*it.groups()))
+        else:
+            raise SystemExit(f"{RULES}: {line!r} is not a rule")
+    for rule in rules:
+        check(rule)
+    return rules
+
+
+def places(text):
+    """The places of a text that are filled from a form: `$`, `#` and `%`."""
+    return re.sub("[^$#%]", "", re.sub("[&?]", "$", text))
+
+
+def check(rule):
+    """Fails unless a rule has JSON with the places of its text, once these are filled."""
+    if places(rule.json) != places(rule.text):
+        raise SystemExit(f"{RULES}: the JSON of {rule.name} has other places than its text")
+
+
+def quoted(text):
+    """A text between quotation marks, for both languages."""
+    return json.dumps(text)
+
+
+def codes(text):
+    """The codes of a text, in two lines if they would be too long for one."""
+    line = f"codes {quoted(text)}"
+    if len(line) <= LONGEST:
+        return line
+    at = text.rindex(',"', 0, len(text) // 2 + 1)
+    return f"(codes {quoted(text[:at])}\n    ++ codes {quoted(text[at:])})"
 
 
 def definition(rules):
     """The definition of the rules, and of the number of each."""
     numbers = "\n".join(
-        f"-- {what}\nabbrev pub {name}_rule : ℕ\n{name}_rule = {number}\n"
-        for number, (name, _, what) in enumerate(rules))
-    texts = "\n".join(f"    codes {text} ∷" for _, text, _ in rules)
+        f"-- {rule.what}\nabbrev pub {rule.name}_rule : ℕ\n{rule.name}_rule = {number}\n"
+        for number, rule in enumerate(rules))
+    texts = "\n".join(f"    codes {rule.text} ∷" for rule in rules)
     return f"""\
 -- {BY}: the rules.
 use Rattle.std.specs.Prelude.{{ℕ, List, [], ◌∷◌, codes}}
@@ -50,43 +103,95 @@ rules =
 """
 
 
+def json_definition(rules):
+    """The definition of the JSON of the rules."""
+    texts = "\n".join(f"    {codes(rule.json)} ∷" for rule in rules)
+    return f"""\
+-- {BY}: the JSON of the rules.
+use Rattle.std.specs.Prelude.{{ℕ, List, [], ◌∷◌, ◌++◌, codes}}
+
+-- the JSON of each rule, by its number
+abbrev pub json_rules : List (List ℕ)
+json_rules =
+{texts}
+    []
+"""
+
+
 def table(rules):
-    """The table of the texts in Rattle."""
-    texts = "".join(f"    {text},\n" for _, text, _ in rules)
+    """The tables of the texts and of the JSON in Rattle."""
+    texts = "".join(f"    {rule.text},\n" for rule in rules)
+    jsons = "".join(f"    {quoted(rule.json)},\n" for rule in rules)
     return f"""\
 //! {BY}: the rules.
 
 /// What is printed by each rule, by its number.
 pub static RULES: [&str; {len(rules)}] = [
 {texts}];
+
+/// The JSON of each rule, by its number.
+pub static JSON_RULES: [&str; {len(rules)}] = [
+{jsons}];
 """
 
 
 def constants(rules):
     """The number of each rule as a constant."""
     lines = "".join(
-        f"/// {what[0].upper()}{what[1:]}.\npub const {name.upper()}: u8 = {number};\n\n"
-        for number, (name, _, what) in enumerate(rules))
+        f"/// {rule.what[0].upper()}{rule.what[1:]}.\n"
+        f"pub const {rule.name.upper()}: u8 = {number};\n\n"
+        for number, rule in enumerate(rules))
     return f"//! {BY}: their numbers.\n\n{lines}".rstrip("\n") + "\n"
 
 
 def binding(rules):
     """The same for Rust, with the table of the places."""
-    places = " ".join(f'b"{re.sub("[^$#%]", "", text)}",' for _, text, _ in rules)
-    places = textwrap.fill(places, 99, initial_indent="    ", subsequent_indent="    ")
+    filled = " ".join(f'b"{places(rule.text)}",' for rule in rules)
+    filled = textwrap.fill(filled, 99, initial_indent="    ", subsequent_indent="    ")
     return f"""\
 {constants(rules).replace("pub const", "pub(super) const")}
 /// The places of each rule, by its number: `$` for another rule, `#` for a text, `%` for a span.
 pub(super) static PLACES: [&[u8]; {len(rules)}] = [
-{places}
+{filled}
 ];
 """
 
 
+def code(text):
+    """A text in a cell of a table, or nothing."""
+    return f"`` {text} ``".replace("|", "\\|") if text else ""
+
+
+def document(rules):
+    """The rules as a table of a document."""
+    rows = "".join(f"| {number} | `{rule.name}` | {rule.what} | {code(rule.text[1:-1])} "
+                   f"| {code(rule.json)} |\n" for number, rule in enumerate(rules))
+    return f"\n\n| | Rule | | Printed | JSON |\n|---|---|---|---|---|\n{rows}\n"
+
+
+def starts(rules):
+    """How the JSON of each rule with a name begins, up to the first place, for C."""
+    found = dict.fromkeys(re.split("[$#%&?]", rule.json)[0] for rule in rules)
+    return "".join(f"    {quoted(it)},\n" for it in found if '"' in it and it not in
+                   ('"', '{"', '["', '{"span":'))
+
+
+def fill(path, begin, text, end):
+    """Writes a text into a file, between two of its lines."""
+    old = path.read_text()
+    at = old.index(begin) + len(begin)
+    path.write_text(old[:at] + text + old[old.index(end, at):])
+
+
 def main():
     rules = read()
-    written = {SPECS: definition(rules), TABLE: table(rules), NUMBERS: constants(rules),
-               BINDING: binding(rules)}
+    written = {SPECS: definition(rules), JSON: json_definition(rules), TABLE: table(rules),
+               NUMBERS: constants(rules), BINDING: binding(rules)}
     for path, text in written.items():
         if path.parent.is_dir():
             path.write_text(text)
+    if DOCUMENT.exists():
+        fill(DOCUMENT, f"<!-- The table is {BY[0].lower()}{BY[1:]}. -->", document(rules),
+             "<!-- The end of the table. -->")
+    if TEST.exists():
+        fill(TEST, "\nstatic const char *const starts[] = {\n", starts(rules), "};\n")

@@ -13,7 +13,6 @@ from cycle_parts import Cycle
 from node_table import Table, snake
 from packed_equations import ROOT, Equations
 from plain_trees import constructor, is_apart, short
-from tree_codes import TREES
 from tree_nodes import places
 
 READS = (inputs.NODES, inputs.TREES, inputs.SOURCES, inputs.VIEWS,
@@ -21,6 +20,7 @@ READS = (inputs.NODES, inputs.TREES, inputs.SOURCES, inputs.VIEWS,
 WRITES = ("crates/wgsl_tree_packed/src/statement.rt", "crates/wgsl_tree_packed/specs/Ended.antt")
 
 CRATE = Path("crates/wgsl_tree_packed")
+TREES = "Rattle.wgsl_model.specs.Trees"
 MINE = "Rattle.wgsl_tree_packed.specs"
 VIEW = "Rattle.wgsl_tree_statement.specs.View"
 PACKED = "Rattle.wgsl_model_packed.specs"

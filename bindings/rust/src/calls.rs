@@ -339,7 +339,7 @@ fn number(said: Said) -> Result<usize, Fault> {
     }
 }
 
-/// The tree with a number, by its text form.
+/// The JSON of the tree with a number.
 pub(crate) fn form_of(what: u32, text: &str) -> Result<String, Fault> {
     text_of(Call::Tree(what), text, text.len() * 32)
 }

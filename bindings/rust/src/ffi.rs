@@ -180,7 +180,7 @@ pub enum Call<'k> {
     Check,
     /// Whether it is a module of the dialect.
     Recognize,
-    /// The text form of the tree with this number.
+    /// The JSON of the tree with this number.
     Tree(u32),
     /// The packed form of the tree with this number.
     PackedTree(u32),

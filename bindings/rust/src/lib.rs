@@ -22,8 +22,8 @@
 //! # Ok::<(), centrelilac::Fault>(())
 //! ```
 //!
-//! [`visit`] walks over them, [`LineIndex`] finds lines and columns, and [`form`] has their text
-//! form.
+//! [`visit`] walks over them, [`LineIndex`] finds lines and columns, and [`form`] has them
+//! as JSON.
 //!
 //! What nests takes stack when the library reads it: [`nesting`] returns how deep a text nests, and
 //! [`parse`] may take a megabyte more. A tree of any depth is printed with at most a megabyte of

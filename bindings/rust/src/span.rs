@@ -1,7 +1,6 @@
 //! Where a node is in its text.
 
-use crate::form::sealed::Written;
-use crate::form::{Form, Writer};
+use crate::form::Form;
 use crate::nested::{copy, drop_node, feed, same, Nested};
 use std::fmt;
 use std::hash::{Hash, Hasher};
@@ -271,19 +270,6 @@ impl<T: Nested> Eq for Spanned<T> {}
 impl<T: Nested> Hash for Spanned<T> {
     fn hash<H: Hasher>(&self, state: &mut H) {
         feed(self, state);
-    }
-}
-
-impl<T: Nested + Written> Written for Spanned<T> {
-    fn write<'t>(&'t self, out: &mut Writer<'t>) {
-        out.push_str("{\"span\":");
-        out.span(self.span);
-        out.push_str(",\"node\":");
-        match self.node().inner() {
-            Some(inner) => out.inner(inner),
-            None => self.node().write(out),
-        }
-        out.push('}');
     }
 }
 

@@ -57,8 +57,8 @@
 
 use crate::calls::packed_form_of;
 use crate::fault::Fault;
-use crate::form::sealed::{Numbered, Written};
-use crate::form::{Source, Writer};
+use crate::form::sealed::Numbered;
+use crate::form::Source;
 use crate::nested::{Code, Coded, Copies};
 use crate::packed::from_packed;
 use crate::visit::{Accept, Visit, VisitMut, Walk};

@@ -1,7 +1,5 @@
 //! The values that are written as words of their own, and the operators.
 
-use crate::form::sealed::Written;
-use crate::form::{write_text, Writer};
 use crate::nested::{Code, Coded, Copies};
 use std::error::Error;
 use std::fmt;
@@ -19,7 +17,7 @@ impl fmt::Display for UnknownWord {
 
 impl Error for UnknownWord {}
 
-/// Enums whose variants are written as words, which are their text form.
+/// Enums whose variants are written as words.
 macro_rules! words {
     ($($(#[$doc:meta])* $name:ident {
         $($(#[$note:meta])* $variant:ident = $word:literal,)*
@@ -64,12 +62,6 @@ macro_rules! words {
                     $($word => Ok($name::$variant),)*
                     _ => Err(UnknownWord),
                 }
-            }
-        }
-
-        impl Written for $name {
-            fn write<'t>(&'t self, out: &mut Writer<'t>) {
-                write_text(self.word(), &mut out.form);
             }
         }
 

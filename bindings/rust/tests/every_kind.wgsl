@@ -50,7 +50,7 @@ fn f() {
 // What they lack: parts that are no variants, and attributes where they may be.
 ;
 alias A = array<vec2<f32>, 4>;
-const a = true && (1 < 2);
+const a = true && (1 < 2) == false;
 @id(1) override b: i32 = -3i;
 @group(0) @binding(1) var<storage, read_write> c: array<u32>;
 var<private> d = 4u;

@@ -1,48 +1,69 @@
-//! The text forms of what nodes hold.
+//! The JSON of texts.
 
-use centrelilac::form::to_form;
-use centrelilac::span::Span;
-use centrelilac::syntax::{
-    Expression, ExpressionNode, LiteralExpression, Statement, TypeConstraint,
-};
+use centrelilac::form::text_form;
+use centrelilac::syntax::{Expression, GlobalDeclaration, Statement};
 
-/// A variant without fields is its name, and an empty list has its brackets.
 #[test]
-fn short_nodes_have_a_form() {
-    assert_eq!(to_form(&Statement::Void), r#""Void""#);
-    let constraint = TypeConstraint::from(("T".into(), Vec::new()));
-    assert_eq!(to_form(&constraint), r#"{"ident":"T","variants":[]}"#);
+fn names_are_strings() {
+    assert_eq!(text_form::<Expression>("a"), Ok(r#""a""#.into()));
+    let vector = r#"{"Template":{"ident":"vec2","template_args":[{"span":[5,8],"node":"f32"}]}}"#;
+    assert_eq!(text_form::<Expression>("vec2<f32>"), Ok(vector.into()));
 }
 
 #[test]
-fn numbers_have_a_form() {
-    for (number, form) in [
-        (LiteralExpression::U32(0), r#"{"U32":0}"#),
-        (LiteralExpression::U32(u32::MAX), r#"{"U32":4294967295}"#),
-        (LiteralExpression::I32(i32::MIN), r#"{"I32":-2147483648}"#),
+fn numbers_are_numbers() {
+    for (number, json) in [
+        ("0u", r#"{"U32":0}"#),
+        ("4294967295u", r#"{"U32":4294967295}"#),
+        ("0x7fffffffi", r#"{"I32":2147483647}"#),
         (
-            LiteralExpression::AbstractInt(i64::MIN),
-            r#"{"AbstractInt":-9223372036854775808}"#,
+            "9223372036854775807",
+            r#"{"AbstractInt":9223372036854775807}"#,
         ),
+        ("1.50", r#"{"AbstractFloat":"1.50"}"#),
+        ("1e9f", r#"{"F32":"1e9"}"#),
     ] {
-        assert_eq!(to_form(&number), form);
+        let json = format!(r#"{{"Literal":{json}}}"#);
+        assert_eq!(text_form::<Expression>(number), Ok(json), "{number}");
     }
 }
 
+/// Each link of a chain has the span of what is before it.
 #[test]
-fn spans_have_a_form() {
-    for (start, end) in [(3, 7), (0, usize::MAX), (7, 3)] {
-        let node = ExpressionNode::new(Expression::from(true), Span { start, end });
-        let form = to_form(&node);
-        let wanted = format!(r#"{{"span":[{start},{end}],"node":{{"Literal":{{"Bool":true}}}}}}"#);
-        assert_eq!(form, wanted);
-    }
+fn operations_are_chains() {
+    let json = r#"{"Chain":["a",{"NamedComponent":{"base":[0,1],"component":"b"}},"#.to_owned()
+        + r#"{"Binary":{"left":[0,3],"operator":"+","right":{"span":[6,7],"node":"c"}}}]}"#;
+    assert_eq!(text_form::<Expression>("a.b + c"), Ok(json));
 }
 
-/// Characters that are no part of a text in quotes are after a `\\` in a form.
+/// What is left out is `null`, and a list without items has its brackets.
 #[test]
-fn texts_have_a_form() {
-    let text = "a\"b\\c\u{1}\n\u{1f}é".to_owned();
-    assert_eq!(to_form(&text), r#""a\"b\\c\u0001\u000a\u001fé""#);
-    assert_eq!(to_form(&String::new()), r#""""#);
+fn parts_are_left_out() {
+    let json = r#"{"Return":{"attributes":[],"expression":null}}"#;
+    assert_eq!(text_form::<Statement>("return;"), Ok(json.into()));
+    let json = r#"{"For":{"attributes":[],"initializer":null,"condition":null,"update":null,"#
+        .to_owned()
+        + r#""body":{"Compound":{"attributes":[],"statements":[]}}}}"#;
+    assert_eq!(text_form::<Statement>("for (;;) {}"), Ok(json));
+}
+
+/// There are commas between the items of a list, whatever their rules are.
+#[test]
+fn items_have_commas_between_them() {
+    let json = r#"{"Compound":{"attributes":[],"statements":["#.to_owned()
+        + r#"{"span":[2,3],"node":{"Void":{"attributes":[]}}},"#
+        + r#"{"span":[4,12],"node":{"Discard":{"attributes":[]}}},"#
+        + r#"{"span":[13,19],"node":{"Break":{"attributes":[]}}}]}}"#;
+    assert_eq!(text_form::<Statement>("{ ; discard; break; }"), Ok(json));
+}
+
+#[test]
+fn a_binding_has_json() {
+    let json = r#"{"Declaration":{"attributes":["#.to_owned()
+        + r#"{"span":[0,9],"node":{"group":{"span":[7,8],"node":{"Literal":{"AbstractInt":0}}}}}],"#
+        + r#""kind":{"var":["storage","read_write"]},"ident":"a","#
+        + r#""ty":{"Template":{"ident":"array","template_args":[{"span":[44,47],"node":"f32"}]}},"#
+        + r#""initializer":null}}"#;
+    let text = "@group(0) var<storage, read_write> a: array<f32>;";
+    assert_eq!(text_form::<GlobalDeclaration>(text), Ok(json));
 }

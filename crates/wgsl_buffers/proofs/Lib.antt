@@ -1,7 +1,6 @@
 pub mod Written
 pub mod Commented
 pub mod Refused
-pub mod Forms
 pub mod Valid
 pub mod PackedKinds
 pub mod PrintedForms

@@ -1,7 +1,8 @@
 -- What the packed form of a node of each kind prints.
-use Rattle.std.proofs.Common.{[], codes}
-use Rattle.wgsl_model_packed.specs.Printing.{Prints}
+use Rattle.std.proofs.Common.{ℕ, List, [], codes, refl}
+use Rattle.wgsl_model_packed.specs.Printing.{IsJsonOf, Prints}
 use Rattle.wgsl_theory_packed.specs.Shown.{Shows}
+use Rattle.wgsl_theory_packed.proofs.Alike.{alike}
 use Rattle.wgsl_theory_packed.proofs.Shown.{shown_alone}
 use Rattle.wgsl_theory_packed.proofs.Expressions.{shows_expression}
 use Rattle.wgsl_theory_packed.proofs.Attributes.{shows_attribute, shows_type_constraint}
@@ -34,3 +35,9 @@ shown a_type_constraint t = shows_type_constraint t
 pub packed_prints : (kind : Kind) (node : (printing_of kind).Node)
     → Prints 0 (codes "$") ((printing_of kind).packed node) ((printing_of kind).print node) []
 packed_prints kind node = shown_alone (shown kind node)
+
+-- so it has JSON
+pub packed_has_json : (kind : Kind) (node : (printing_of kind).Node)
+    → (text : List ℕ) × IsJsonOf ((printing_of kind).packed node) text
+packed_has_json kind node =
+    let written = alike 0 (packed_prints kind node) (codes "$") refl refl in (written.printed, written.prints)

@@ -10,7 +10,7 @@ use Rattle.wgsl_model.specs.Printed.Units.{print_unit}
 use Rattle.wgsl_model.specs.Program.{IsUnit, IsFaultOf}
 use Rattle.wgsl_model.specs.SourceTrees.{IsFaultIn}
 use Rattle.wgsl_model.specs.Tokens.TokenList.{IsTokenList}
-use Rattle.wgsl_model_packed.specs.Printing.{Prints}
+use Rattle.wgsl_model_packed.specs.Printing.{Prints, wgsl}
 use Rattle.wgsl_lexer.specs.Left.{BeginsWithList}
 use Rattle.wgsl_model_tidy.specs.Layout.{Layout}
 use Rattle.wgsl_model_tidy.specs.Syntax.{IsFaultAfterMark}
@@ -23,7 +23,7 @@ use Rattle.wgsl_buffers.specs.declared.tokens.PlacedKind.{PlacedKind}
 use Rattle.wgsl_buffers.specs.Answers.{counted, of_kind, Refuses, RefusesWithLines, Holds, Lacks, IsNoText}
 use Rattle.wgsl_buffers.specs.Items.{count_of, counted_to, HoldItems, kind_and_place, token_items, start_and_end, ArePlaces}
 use Rattle.wgsl_buffers.specs.Comments.{AreTokensAndComments}
-use Rattle.wgsl_buffers.specs.Trees.{Tree, tree_of, IsFormOf, IsPackedOf}
+use Rattle.wgsl_buffers.specs.Trees.{Tree, tree_of, IsJsonIn, IsOnlyPrint, IsPackedOf}
 
 -- what each call promises: 2 only for bytes that are no text, and 3 with nothing in the answer
 pub record Reads (text : List ℕ) (answer : Answer) (result : ℕ) : Type 0 where
@@ -84,26 +84,21 @@ pub record WritesForm (IsForm : Tree → List ℕ → List ℕ → Type 0) (what
   pub status : result ≤ 5
   pub reads : Reads text answer result
 
--- the text form
+-- the JSON
 abbrev pub WritesTree : ℕ → List ℕ → List ℕ → List ℕ → Answer → ℕ → Type 0
-WritesTree = WritesForm IsFormOf
+WritesTree = WritesForm IsJsonIn
 
 -- the packed form
 abbrev pub WritesPackedTree : ℕ → List ℕ → List ℕ → List ℕ → Answer → ℕ → Type 0
 WritesPackedTree = WritesForm IsPackedOf
 
--- a text that the rules print of a packed form, and no other
-abbrev pub IsPackedPrint : List ℕ → List ℕ → Type 0
-IsPackedPrint form text = Prints 0 (codes "$") form text []
-    × ((other : List ℕ) → Prints 0 (codes "$") form other [] → text ≡ other)
-
 -- what the rules print of a packed form; 1 only for bytes of which they print nothing
 pub record PrintsPacked (form before buffer : List ℕ) (answer : Answer) (result : ℕ) : Type 0 where
-  pub printed : result ≡ 0 → (text : List ℕ) × IsPackedPrint form text × Holds text buffer answer
+  pub printed : result ≡ 0 → (text : List ℕ) × IsOnlyPrint wgsl form text × Holds text buffer answer
   pub refused : result ≡ 1 → ((text : List ℕ) → ¬ (Prints 0 (codes "$") form text []))
       × (buffer ≡ before) × (answer ≡ of_kind 10)
   pub memory : result ≡ 3 → answer ≡ counted 0
-  pub small : result ≡ 4 → (text : List ℕ) × IsPackedPrint form text × Lacks text before buffer answer
+  pub small : result ≡ 4 → (text : List ℕ) × IsOnlyPrint wgsl form text × Lacks text before buffer answer
   pub status : (result ≤ 1) ⊎ ((result ≡ 3) ⊎ (result ≡ 4))
 
 -- the items that are written of the tokens of a text before its end or its first invalid token

@@ -4,7 +4,7 @@ ghost use Rattle.std.specs.Prelude.{◌≡◌, ◌⊎◌, ℕ, List, [], chars, 
 ghost use Rattle.std.specs.Str.{IsUtf8};
 ghost use Rattle.wgsl_model.specs.Grammar.Symbols as symbols;
 ghost use Rattle.wgsl_model_packed.specs.Expressions.{packed_expression_node};
-ghost use Rattle.wgsl_model_packed.specs.Printing.{Prints};
+ghost use Rattle.wgsl_model_packed.specs.Printing.{IsJsonOf, Prints};
 ghost use Rattle.wgsl_model_packed.specs.Statements.{packed_statement};
 ghost use Rattle.wgsl_model_packed.specs.Units.{packed_directive, packed_global_declaration};
 ghost use Rattle.wgsl_model_packed.specs.Units.{packed_unit};
@@ -18,6 +18,12 @@ ghost use Rattle.wgsl_buffers.specs.Calls.{Formats, PrintsPacked};
 pub fn packed_nodes()
     ensures { (kind : Kind) (node : (printing_of kind).Node)
         → Prints 0 (codes "$") ((printing_of kind).packed node) ((printing_of kind).print node) [] }
+{}
+
+/// The packed form of a node has JSON.
+pub fn packed_json()
+    ensures { (kind : Kind) (node : (printing_of kind).Node)
+        → (text : List ℕ) × IsJsonOf ((printing_of kind).packed node) text }
 {}
 
 /// Printing the packed form of the module that a text is returns what formatting the text returns,

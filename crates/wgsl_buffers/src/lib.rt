@@ -16,7 +16,7 @@ mod trees;
 
 pub use answer::Answer;
 pub use comments::write_tokens_with_comments;
-pub use laws::{packed_forms_differ, packed_nodes, printed_packed};
+pub use laws::{packed_forms_differ, packed_json, packed_nodes, printed_packed};
 pub use lists::{Place, begins_with_list, write_lists};
 pub use minified::minify;
 pub use modules::{check, format, measure_nesting, recognize};

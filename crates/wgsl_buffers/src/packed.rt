@@ -9,7 +9,7 @@ use crate::fault::{refuse_packed, tell_error};
 use std::alloc::Global;
 use wgsl_error::Error;
 use wgsl_parser::FromSource;
-use wgsl_print_packed::{PackedError, print_packed};
+use wgsl_print_packed::{Notation, PackedError, print_packed};
 use wgsl_tree_expression::Expression;
 use wgsl_tree_packed::{packed_form, packed_module};
 use wgsl_tree_statement::Statement;
@@ -60,7 +60,7 @@ fn packed_expression(alloc: Global, source: &str) -> Result<Vec<u8>, Error>
 }
 
 /// The packed form of the tree that has a number, if one has.
-fn packed_tree(alloc: Global, what: u32, source: &str) -> Option<Result<Vec<u8>, Error>>
+pub(crate) fn packed_tree(alloc: Global, what: u32, source: &str) -> Option<Result<Vec<u8>, Error>>
     ensures { MatchOption result (4 < what) (λ read.
         (what ≤ 4) × IsPackedTree (tree_of what) source.now read) }
 {
@@ -102,7 +102,7 @@ pub fn write_packed_tree(
 pub fn print(alloc: Global, form: &[u8], buffer: &mut [u8], answer: &mut Answer) -> u32
     ensures { PrintsPacked form.now buffer.old buffer.new answer.new result }
 {
-    match print_packed(alloc, form) {
+    match print_packed(alloc, Notation::Wgsl, form) {
         Ok(text) => tell_bytes(&text, buffer, answer),
         Err(PackedError::OutOfMemory) => refuse_memory(answer),
         Err(PackedError::NotPacked) => refuse_packed(answer),

@@ -95,8 +95,8 @@ pub extern "C" fn wgsl_c_recognize(
     wgsl_buffers::recognize(alloc, text, buffer, answer)
 }
 
-/// Writes the tree that a text is, by its text form: 0 asks for a module, 1 for a directive, 2 for
-/// a declaration, 3 for a statement, 4 for an expression.
+/// Writes the tree that a text is, as JSON: 0 asks for a module, 1 for a directive, 2 for a
+/// declaration, 3 for a statement, 4 for an expression.
 #[unsafe(no_mangle)]
 pub extern "C" fn wgsl_c_tree(
     alloc: Global,

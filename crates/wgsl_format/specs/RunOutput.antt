@@ -1,4 +1,5 @@
--- What a run of each program leaves with status 0, and where `wgslfmt` was given arguments.
+-- What a run of `wgslfmt` leaves with status 0, and where it was given arguments; what a formatted
+-- text is.
 use Rattle.std.specs.Prelude.{◌≡◌, ℕ, true, List, codes, chars}
 use Rattle.std.specs.Str.{is_utf8}
 use Rattle.wgsl_model.specs.Trees.Units.{TranslationUnit}
@@ -6,7 +7,7 @@ use Rattle.wgsl_model.specs.Printed.Units.{print_unit}
 use Rattle.wgsl_model.specs.Program.{ProcessOutput, complaint, IsUnit, ReadsBack}
 use Rattle.wgsl_model_tidy.specs.Formatted.{unmarked}
 use Rattle.wgsl_model_tidy.specs.Kept.{IsFormatted, Keeps}
-use Rattle.wgsl_model_tidy.specs.Layout.{Layout, standard}
+use Rattle.wgsl_model_tidy.specs.Layout.{Layout}
 use Rattle.wgsl_model_tidy.specs.Syntax.{IsModuleInSyntax}
 
 -- The text is the printed unit of these bytes, and reads as that unit without its empty items,
@@ -25,10 +26,6 @@ pub record IsTidiedBy (layout : Layout) (bytes text : List ℕ) : Type 0 where
   pub accepted : IsModuleInSyntax (unmarked (chars bytes))
   pub formatted : IsFormatted layout (chars bytes) (chars text)
   pub kept : Keeps layout (chars bytes) (chars text)
-
--- so by the standard layout
-abbrev pub IsTidied : List ℕ → List ℕ → Type 0
-IsTidied = IsTidiedBy standard
 
 -- what is due where `wgslfmt` was given arguments
 abbrev pub no_arguments : ProcessOutput

@@ -1,5 +1,4 @@
-//! The programs that format, over any reader and writers: what each makes of its input, and the
-//! formatted text of a module.
+//! `wgslfmt` over any reader and writers, and the formatted text of a module.
 #![tactic(auto)]
 
 mod formatter;
@@ -10,7 +9,6 @@ mod report;
 mod source;
 mod streams;
 mod tidied;
-mod tidier;
 
 pub use formatter::Formatter;
 pub use printer::Printer;
@@ -19,5 +17,4 @@ pub use program::run_with;
 pub use report::Report;
 pub use streams::{ReadError, read_all, refuse_memory, send};
 pub use tidied::{tidy, tidy_with, tidy_within};
-pub use tidier::Tidier;
 pub use wgsl_format_layout::{Indent, Layout, Newlines};

@@ -2,4 +2,4 @@ pub mod Configs
 pub mod Runs
 pub mod Others
 pub mod Refusals
-pub mod Commands
+pub mod Starts

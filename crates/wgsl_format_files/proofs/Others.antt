@@ -1,8 +1,8 @@
 -- What a run leaves alone.
 use Rattle.std.proofs.Common.{◌≢◌, refl, sym, ◌∙◌, subst, ℕ, List, [], ◌∷◌}
-use Rattle.wgsl_command.specs.Commands.{Source, standard_input, path}
-use Rattle.wgsl_command.specs.declared.command.Mode.{Mode}
-use Rattle.wgsl_command.specs.declared.command.Mode.TheVariants.{Write, Check, Diff}
+use Rattle.wgsl_format_options.specs.Options.{Source, standard_input, path}
+use Rattle.wgsl_format_options.specs.declared.options.Mode.{Mode}
+use Rattle.wgsl_format_options.specs.declared.options.Mode.TheVariants.{Write, Check, Diff}
 use Rattle.wgsl_files.specs.Files.{Files, Same}
 use Rattle.wgsl_files.specs.Rewriting.{Written, ChangesOnly}
 use Rattle.wgsl_files.proofs.Runs.{same_same, same_changes}

@@ -2,8 +2,8 @@
 use Rattle.std.proofs.Common.{◌≡◌, refl, sym, ap, subst, ◌∙◌, ℕ, ◌+◌, ◌<◌, ◌≤◌, max, Bool, true, false, List, [], ◌∷◌, ◌++◌, length, take, get_or, map, flat_map, Option, arith}
 use Rattle.std.proofs.lemmas.Grind.{flat_map-append}
 use Rattle.std.proofs.lemmas.List.{append-nil, length-append, map-append, take_more}
-use Rattle.wgsl_command.specs.Commands.{Source}
-use Rattle.wgsl_command.specs.declared.command.Mode.{Mode}
+use Rattle.wgsl_format_options.specs.Options.{Source}
+use Rattle.wgsl_format_options.specs.declared.options.Mode.{Mode}
 use Rattle.wgsl_files.specs.Files.{Files}
 use Rattle.wgsl_files.specs.Statuses.{code_of}
 use Rattle.wgsl_format_files.specs.declared.event.Event.{Event}

@@ -4,7 +4,7 @@ use Rattle.std.specs.List.{starts_with, slice_split}
 use Rattle.std.specs.Str.{is_utf8}
 use Rattle.wgsl_choices.specs.declared.Choices.{Choices}
 use Rattle.wgsl_choices.specs.Choices.{nothing, or}
-use Rattle.wgsl_command.specs.Commands.{Source, standard_input, path}
+use Rattle.wgsl_format_options.specs.Options.{Source, standard_input, path}
 use Rattle.wgsl_editorconfig.specs.declared.reading.Properties.{Properties}
 use Rattle.wgsl_editorconfig.specs.Properties.{properties_of}
 use Rattle.wgsl_files.specs.Files.{Files, IsAbsolute}

@@ -1,8 +1,8 @@
 -- What comes of a text, and what is reported of it.
 use Rattle.std.specs.Prelude.{◌≡◌, ℕ, Bool, true, false, List, [], ◌++◌, Option, Some, None, codes, string_bytes}
 use Rattle.std.specs.Borrow.{Bor}
-use Rattle.wgsl_command.specs.declared.command.Mode.{Mode}
-use Rattle.wgsl_command.specs.declared.command.Mode.TheVariants.{Write, Check, Diff}
+use Rattle.wgsl_format_options.specs.declared.options.Mode.{Mode}
+use Rattle.wgsl_format_options.specs.declared.options.Mode.TheVariants.{Write, Check, Diff}
 use Rattle.wgsl_diff.specs.Diffs.{Line, Hunk, IsScript, AreHunks}
 use Rattle.wgsl_diff.specs.Lines.{lines_of}
 use Rattle.wgsl_diff.specs.Printing.{print_diff}

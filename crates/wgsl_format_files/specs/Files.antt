@@ -1,8 +1,8 @@
 -- What comes of one file, and of the standard input, where a text becomes another or is refused
 -- with a message.
 use Rattle.std.specs.Prelude.{◌≡◌, ◌≢◌, ℕ, List, Option, string_bytes}
-use Rattle.wgsl_command.specs.declared.command.Mode.{Mode}
-use Rattle.wgsl_command.specs.declared.command.Mode.TheVariants.{Write}
+use Rattle.wgsl_format_options.specs.declared.options.Mode.{Mode}
+use Rattle.wgsl_format_options.specs.declared.options.Mode.TheVariants.{Write}
 use Rattle.wgsl_files.specs.Files.{Files, HasNone, Same}
 use Rattle.wgsl_files.specs.Rewriting.{IsKept, IsChanged, IsRefused}
 use Rattle.wgsl_format.specs.Ends.{IsInput}

@@ -1,6 +1,6 @@
 -- What is formatted for the paths that are named.
 use Rattle.std.specs.Prelude.{◌≡◌, ℕ, List, [], ◌∷◌, ◌++◌, map, string_bytes}
-use Rattle.wgsl_command.specs.Commands.{Source, standard_input, path}
+use Rattle.wgsl_format_options.specs.Options.{Source, standard_input, path}
 use Rattle.wgsl_files.specs.Files.{Files}
 use Rattle.wgsl_files.specs.Folders.{IsListing}
 use Rattle.wgsl_format_files.specs.declared.inputs.Input.{Input}

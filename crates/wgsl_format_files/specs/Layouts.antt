@@ -1,6 +1,6 @@
 -- The layout that a user chooses.
-use Rattle.std.specs.Prelude.{ℕ, Bool, true, false, ◌&&◌, Option, Some, None}
-use Rattle.std.specs.Option.{is_none, option_or, unwrap_or}
+use Rattle.std.specs.Prelude.{ℕ, Bool, true, false, Option, Some, None}
+use Rattle.std.specs.Option.{option_or, unwrap_or}
 use Rattle.wgsl_choices.specs.declared.Choices.{Choices}
 use Rattle.wgsl_choices.specs.declared.IndentSize.{IndentSize}
 use Rattle.wgsl_choices.specs.declared.IndentSize.TheVariants as indent
@@ -10,11 +10,6 @@ use Rattle.wgsl_choices.specs.declared.Newlines.{Newlines}
 use Rattle.wgsl_choices.specs.declared.Newlines.TheVariants.{Auto, Lf, CrLf}
 use Rattle.wgsl_model_tidy.specs.Layout as plain
 use Rattle.wgsl_model_tidy.specs.Layout.{Layout, standard}
-
--- nothing is chosen
-abbrev pub is_nothing : Choices → Bool
-is_nothing choices = is_none choices.width
-    && (is_none choices.style && (is_none choices.size && (is_none choices.tab_width && is_none choices.newlines)))
 
 -- lines are indented with tabs
 abbrev pub has_tabs : Option IndentStyle → Bool

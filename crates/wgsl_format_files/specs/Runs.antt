@@ -2,9 +2,9 @@
 use Rattle.std.specs.Prelude.{◌≡◌, ◌≤◌, ℕ, ◌+◌, max, Bool, true, false, List, [], ◌∷◌, ◌++◌, length, Option, codes, not, nat_lt, ◌&&◌, if◌then◌else◌}
 use Rattle.std.specs.List.{flat_map}
 use Rattle.std.specs.Fmt.{decimal}
-use Rattle.wgsl_command.specs.Commands.{Source, standard_input, path}
-use Rattle.wgsl_command.specs.declared.command.Mode.{Mode}
-use Rattle.wgsl_command.specs.declared.command.Mode.TheVariants.{Write, Check, Diff}
+use Rattle.wgsl_format_options.specs.Options.{Source, standard_input, path}
+use Rattle.wgsl_format_options.specs.declared.options.Mode.{Mode}
+use Rattle.wgsl_format_options.specs.declared.options.Mode.TheVariants.{Write, Check, Diff}
 use Rattle.wgsl_files.specs.Files.{Files}
 use Rattle.wgsl_files.specs.Statuses.{code_of}
 use Rattle.wgsl_format_files.specs.declared.event.Event.{Event}

@@ -5,8 +5,8 @@ ghost use Rattle.wgsl_format_files.specs.Events.{IsDiff, IsToldOfChange, line_of
 
 use crate::event::Event;
 use std::alloc::{AllocError, Global};
-use wgsl_command::Mode;
 use wgsl_diff::{hunks, lines_of, push_diff, script};
+use wgsl_format_options::Mode;
 
 /// Returns what comes of a file of this name whose text changes from one to another. If files are
 /// written, it was.

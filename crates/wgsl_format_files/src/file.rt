@@ -8,8 +8,8 @@ use crate::changed::changed;
 use crate::event::Event;
 use std::alloc::Global;
 use std::io;
-use wgsl_command::Mode;
 use wgsl_files::{FileError, Format, Rewritten, Store, rewrite};
+use wgsl_format_options::Mode;
 
 /// Formats the file at a path, and returns what comes of it. It is only written if files are
 /// written and it changes, and it fails only where there is no file.

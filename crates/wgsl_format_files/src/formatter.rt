@@ -11,7 +11,7 @@ use wgsl_files::{Format, FormatError};
 use wgsl_format::{Layout, tidy_within};
 
 /// How many levels deep a module may nest: a level takes at most 1,300 bytes of a stack of 8 MB.
-pub(crate) const DEPTH: usize = 1_000;
+const DEPTH: usize = 1_000;
 
 /// The formatter of `wgsltidy` for files: a module becomes its formatted text by a layout. The
 /// message of a refusal is what follows the name of the file: the place and the error.

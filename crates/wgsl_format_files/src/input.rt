@@ -7,9 +7,9 @@ use crate::changed::changed;
 use crate::event::Event;
 use std::alloc::Global;
 use std::io::Read;
-use wgsl_command::Mode;
 use wgsl_files::{Format, FormatError};
 use wgsl_format::{ReadError, read_all};
+use wgsl_format_options::Mode;
 
 /// Formats all that a reader gives, and returns what comes of it, as of a file of this name. Where
 /// files are written the formatted text is for the output.

@@ -1,14 +1,14 @@
 //! What is formatted for the paths that are named.
 
 ghost use Rattle.std.specs.Prelude.{◌≡◌, ◌++◌, [], ◌∷◌, map, string_bytes, IfOk, OnOk};
-ghost use Rattle.wgsl_command.specs.Commands as plain;
-ghost use Rattle.wgsl_command.specs.View.{source_view};
+ghost use Rattle.wgsl_format_options.specs.Options as plain;
+ghost use Rattle.wgsl_format_options.specs.View.{source_view};
 ghost use Rattle.wgsl_format_files.specs.Inputs.{input_view, name_in};
 ghost use Rattle.wgsl_format_files.specs.Inputs.{AreInputsOf, IsInputOf, AreFilesOf};
 
 use std::alloc::{AllocError, Global};
-use wgsl_command::Source;
 use wgsl_files::{Store, StoreError};
+use wgsl_format_options::Source;
 
 /// A place where a text is read.
 #[derive(Debug, Drop)]

@@ -5,7 +5,7 @@ ghost use Rattle.std.specs.Option.{unwrap_or};
 ghost use Rattle.wgsl_model_tidy.specs.Layout.{standard};
 ghost use Rattle.wgsl_format_layout.specs.Layouts.{layout_view, newlines_view};
 ghost use Rattle.wgsl_format_layout.specs.Layouts as view;
-ghost use Rattle.wgsl_format_files.specs.Layouts.{is_nothing, has_tabs, columns_of};
+ghost use Rattle.wgsl_format_files.specs.Layouts.{has_tabs, columns_of};
 ghost use Rattle.wgsl_format_files.specs.Layouts.{columns_chosen, newlines_of, layout_of};
 
 use wgsl_choices::{Choices, IndentSize, IndentStyle};
@@ -16,17 +16,6 @@ const WIDTH: usize = 100;
 
 /// How many columns a level has where that is left open.
 const COLUMNS: u8 = 4;
-
-/// Returns whether nothing is chosen.
-pub fn is_nothing(choices: Choices) -> bool
-    ensures { result ≡ is_nothing choices }
-{
-    choices.width.is_none()
-        && choices.style.is_none()
-        && choices.size.is_none()
-        && choices.tab_width.is_none()
-        && choices.newlines.is_none()
-}
 
 /// Returns the layout of what is chosen, and what is standard where a part is left open.
 pub fn layout_of(choices: Choices) -> Layout

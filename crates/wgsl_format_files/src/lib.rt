@@ -12,7 +12,6 @@ mod layout;
 mod printing;
 mod program;
 mod run;
-mod usage;
 
 pub use event::Event;
 pub use formatter::Tidy;

@@ -1,7 +1,7 @@
 //! A run over inputs.
 
 ghost use Rattle.std.specs.Prelude.{◌≡◌, ◌≢◌, ◌<◌, ◌+◌, ◌^◌, Bool, max, map, string_bytes, IfOk};
-ghost use Rattle.wgsl_command.specs.declared.command.Mode.TheVariants.{Write};
+ghost use Rattle.wgsl_format_options.specs.declared.options.Mode.TheVariants.{Write};
 ghost use Rattle.wgsl_files.specs.Files.{Same};
 ghost use Rattle.wgsl_files.specs.Rewriting.{ChangesOnly};
 ghost use Rattle.wgsl_files.specs.Statuses.{code_of};
@@ -25,8 +25,8 @@ use crate::printing::tell_event;
 use std::alloc::{AllocError, Global};
 use std::io::{Read, Write};
 use wgsl_choices::Choices;
-use wgsl_command::Mode;
 use wgsl_files::{Status, Store};
+use wgsl_format_options::Mode;
 use wgsl_program::put;
 
 /// The way in which files are formatted.

@@ -1,12 +1,12 @@
 -- What arguments ask for, by what `clap` makes of them.
-use Rattle.std.proofs.Common.{◌≡◌, ◌∙◌, ap, inl, inr, refl, subst, sym, ℕ, true, List, [], ◌∷◌, Option, Some, Result, Ok, Err, codes, flat_map}
+use Rattle.std.proofs.Common.{◌≡◌, ◌∙◌, ap, inl, inr, refl, subst, sym, ℕ, true, List, [], ◌∷◌, Option, Some, Result, Err, codes, flat_map}
 use Rattle.std.specs.List.{slice_split}
 use Rattle.std.specs.Option.{option_copied, unwrap_or}
 use Rattle.clap.specs.Words.{App, HasKind, Row, Kinds, IsAmong, kind_of, all_of, fault_of, first_of, is_simple, is_simple_and_free, matches_of}
 use Rattle.clap.specs.declared.error.Error.{Error}
 use Rattle.clap.specs.declared.error.kind.ErrorKind.{ErrorKind}
 use Rattle.wgsl_minify_names.specs.View.{texts, which_view}
-use Rattle.wgsl_minify_files.specs.Options.{Options, command, asked, asked_by, asked_with, is_comma, path_of, which_of}
+use Rattle.wgsl_minify_files.specs.Options.{Options, command, asked, asked_by, asked_with, with_own_map, is_comma, path_of, which_of}
 use Rattle.wgsl_minify_files.specs.View.{Gives, options_view}
 use Rattle.wgsl_minify_files.specs.declared.options.Options as declared
 
@@ -52,10 +52,10 @@ module _ (words : List (List ℕ)) (rows : List Row) (none : fault_of command wo
       → option_copied options.output ≡ path_of (first_of (codes "output") rows)
       → option_copied options.map ≡ first_of (codes "map") rows
       → texts options.keep.items ≡ flat_map (slice_split is_comma) (unwrap_or (all_of (codes "keep") rows) [])
-      → asked words ≡ Ok (options_view options)
+      → asked words ≡ with_own_map (options_view options)
   asked_options options names input output map keep =
       let made : Option (List ℕ) → Option (List ℕ) → Option (List ℕ) → List (List ℕ) → Result Options Kinds =
-      λ i o m k. Ok (record {
+      λ i o m k. with_own_map (record {
         input = i;
         output = o;
         map = m;

@@ -1,28 +1,26 @@
 -- Failures of files and of sources.
-use Rattle.std.proofs.Common.{◌≡◌, ◌⊎◌, inl, inr, refl, sym, ap, subst, ℕ, true, false, List, Some, chars}
+use Rattle.std.proofs.Common.{◌≡◌, ◌⊎◌, inl, inr, refl, sym, ap, subst, ℕ, true, false, List, chars}
 use Rattle.std.specs.Str.{is_utf8}
 use Rattle.wgsl_error.specs.declared.Error.{Error}
 use Rattle.wgsl_error.specs.declared.ParseError.TheVariants as parse
 use Rattle.wgsl_error.specs.Kinds.{error_at}
 use Rattle.wgsl_error.specs.View.{fault_view}
-use Rattle.wgsl_files.specs.Files.{Files}
-use Rattle.wgsl_files.specs.Reading.{IsMissing}
+use Rattle.wgsl_files.specs.Reading.{IsErrorFor}
 use Rattle.wgsl_files.specs.declared.store.StoreError.{StoreError}
 use Rattle.wgsl_files.specs.declared.store.StoreError.TheVariants as store
 use Rattle.wgsl_model.specs.Program.{IsFaultOf}
-use Rattle.wgsl_minify_files.specs.Failures.{IsFailed, IsNotUtf8, IsRefused, IsRefusedFor, Refuses, Refuses.named, Refuses.undecoded}
-use Rattle.wgsl_minify_files.specs.Runs.{IsUnread}
+use Rattle.wgsl_minify_files.specs.Failures.{IsFailed, IsFailedFor, IsNotUtf8, IsRefused, IsRefusedFor, Refuses, Refuses.named, Refuses.undecoded}
 use Rattle.wgsl_minify_files.specs.declared.failure.Failure.{Failure}
 use Rattle.wgsl_minify_files.specs.declared.failure.Failure.TheVariants.{Refused, Failed, OutOfMemory}
 
--- a file that is not read
-pub unread : (files : Files) (path : List ℕ) (e : StoreError) (failure : Failure) → IsMissing files path e
-    → (e ≡ store.OutOfMemory → failure ≡ OutOfMemory) → IsFailed path failure → IsUnread (Some path) files failure
-unread files path store.OutOfMemory failure missing memory failed =
-    subst (IsUnread (Some path) files) (sym (memory refl)) tt
-unread files path (store.Failed e) (Refused message) missing memory failed = failed
-unread files path (store.Failed e) (Failed message) missing memory failed = (missing, failed)
-unread files path (store.Failed e) OutOfMemory missing memory failed = tt
+-- a file that is not read or written for the reason of an error
+pub failed_for : (reason : Type 0) (path : List ℕ) (e : StoreError) (failure : Failure) → IsErrorFor reason e
+    → (e ≡ store.OutOfMemory → failure ≡ OutOfMemory) → IsFailed path failure → IsFailedFor reason path failure
+failed_for reason path store.OutOfMemory failure why memory failed =
+    subst (IsFailedFor reason path) (sym (memory refl)) tt
+failed_for reason path (store.Failed e) (Refused message) why memory failed = failed
+failed_for reason path (store.Failed e) (Failed message) why memory failed = (why, failed)
+failed_for reason path (store.Failed e) OutOfMemory why memory failed = tt
 
 -- bytes that are no text are refused
 pub refused_undecoded : (name bytes : List ℕ) (failure : Failure) → is_utf8 bytes ≡ false

@@ -1,4 +1,3 @@
 pub mod Asked
 pub mod Failures
 pub mod Runs
-pub mod Starts

@@ -2,9 +2,9 @@
 use Rattle.std.proofs.Common.{◌≡◌, refl, sym, subst, ℕ, List, Option, None, Some}
 use Rattle.wgsl_files.specs.Files.{Files, Same, Replaced}
 use Rattle.wgsl_program.specs.World.{world, Says}
-use Rattle.wgsl_minify_files.specs.Failures.{message_of, code_of_failure, IsFailed}
+use Rattle.wgsl_minify_files.specs.Failures.{message_of, code_of_failure}
 use Rattle.wgsl_minify_files.specs.Options.{Options}
-use Rattle.wgsl_minify_files.specs.Runs.{IsPrepared, IsRun, IsRun.minified, IsRun.stopped, IsRun.unwritten, IsWritten, Stops}
+use Rattle.wgsl_minify_files.specs.Runs.{IsPrepared, IsRun, IsRun.minified, IsRun.stopped, IsRun.unwritten, IsUnwritten, IsWritten, Stops}
 use Rattle.wgsl_minify_files.specs.declared.failure.Failure.{Failure}
 
 module _ (options : Options) (files between files_next : Files)
@@ -37,7 +37,7 @@ module _ (options : Options) (files between files_next : Files)
 
   -- or it could not be
   pub run_fails : (text path : List ℕ) (failure : Failure) → IsPrepared options files between left left_next text
-      → options.output ≡ Some path → IsFailed path failure
+      → options.output ≡ Some path → IsUnwritten path between failure
       → Says (message_of failure) (code_of_failure failure) errors errors_next status → Same between files_next
       → IsRun options (world files left output errors) (world files_next left_next output errors_next) status
   run_fails text path failure prepared some failed says same =

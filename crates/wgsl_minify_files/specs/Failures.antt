@@ -38,6 +38,12 @@ IsFailed name (Refused message) = ⊥
 IsFailed name (Failed message) = IsReported name (string_bytes message)
 IsFailed name OutOfMemory = Unit {0}
 
+-- it could not be for this reason
+abbrev pub IsFailedFor : Type 0 → List ℕ → Failure → Type 0
+IsFailedFor reason name (Refused message) = ⊥
+IsFailedFor reason name (Failed message) = reason × IsReported name (string_bytes message)
+IsFailedFor reason name OutOfMemory = Unit {0}
+
 -- the message of a file of this name that is not UTF-8
 abbrev pub not_utf8 : List ℕ → List ℕ
 not_utf8 name = name ++ codes ": error: not UTF-8\n"

@@ -1,11 +1,11 @@
 -- What arguments ask for.
-use Rattle.std.specs.Prelude.{ℕ, ◌==◌, Bool, true, List, [], ◌∷◌, Option, Some, None, Result, Ok, Err, codes, flat_map, if◌then◌else◌}
+use Rattle.std.specs.Prelude.{ℕ, ◌==◌, Bool, true, false, ◌||◌, List, [], ◌∷◌, Option, Some, None, Result, Ok, Err, codes, flat_map, if◌then◌else◌}
 use Rattle.std.specs.List.{slice_split}
 use Rattle.std.specs.Option.{unwrap_or}
 use Rattle.std.specs.Str.{bytes_eq}
 use Rattle.clap.specs.Words.{App, Row, Rule, Kinds, new_app, new_rule, with_rule, matches_of, first_of, all_of, fault_of}
 use Rattle.clap.specs.declared.builder.action.ArgAction.TheVariants.{Append}
-use Rattle.clap.specs.declared.error.kind.ErrorKind.TheVariants.{InvalidValue}
+use Rattle.clap.specs.declared.error.kind.ErrorKind.TheVariants.{InvalidValue, ArgumentConflict}
 use Rattle.wgsl_model_minify.specs.Renamed.{Which, no_names, local_names, all_names}
 
 -- an option with one value
@@ -62,9 +62,24 @@ options_of rows which = record {
   keep = flat_map (slice_split is_comma) (unwrap_or (all_of (codes "keep") rows) []);
 }
 
+-- a path is this one
+abbrev pub is_at : List ℕ → Option (List ℕ) → Bool
+is_at path None = false
+is_at path (Some other) = bytes_eq path other
+
+-- a path for the new names is `-`, or that of the module or of its text
+abbrev pub is_taken : Option (List ℕ) → Option (List ℕ) → Option (List ℕ) → Bool
+is_taken None input output = false
+is_taken (Some path) input output = bytes_eq path (codes "-") || (is_at path input || is_at path output)
+
+-- what is asked for, where the new names have a path of their own
+abbrev pub with_own_map : Options → Result Options Kinds
+with_own_map options =
+    if is_taken options.map options.input options.output then Err (ArgumentConflict ∷ []) else Ok options
+
 abbrev pub asked_with : Option Which → List Row → Result Options Kinds
 asked_with None rows = Err (InvalidValue ∷ [])
-asked_with (Some which) rows = Ok (options_of rows which)
+asked_with (Some which) rows = with_own_map (options_of rows which)
 
 abbrev pub asked_by : Kinds → List Row → Result Options Kinds
 asked_by [] rows = asked_with (which_of (first_of (codes "names") rows)) rows

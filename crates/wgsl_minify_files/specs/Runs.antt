@@ -1,5 +1,5 @@
 -- One run: what is read, what is written, and the status.
-use Rattle.std.specs.Prelude.{◌≡◌, ℕ, true, List, ◌++◌, Option, Some, None, chars, codes}
+use Rattle.std.specs.Prelude.{◌≡◌, ℕ, true, false, List, ◌++◌, Option, Some, None, chars, codes}
 use Rattle.std.specs.Io.KnownBytes.{IsAtEnd}
 use Rattle.std.specs.Option.{unwrap_or}
 use Rattle.std.specs.Str.{is_utf8}
@@ -8,10 +8,9 @@ use Rattle.wgsl_format.specs.Ends.{IsInput}
 use Rattle.wgsl_minify.specs.Modules.{IsMinified}
 use Rattle.wgsl_name_map.specs.Maps.{map_form}
 use Rattle.wgsl_program.specs.World.{World, Says}
-use Rattle.wgsl_minify_files.specs.Failures.{message_of, code_of_failure, IsFailed, IsRefused}
+use Rattle.wgsl_minify_files.specs.Failures.{message_of, code_of_failure, IsFailed, IsFailedFor, IsRefused}
 use Rattle.wgsl_minify_files.specs.Options.{Options}
 use Rattle.wgsl_minify_files.specs.declared.failure.Failure.{Failure}
-use Rattle.wgsl_minify_files.specs.declared.failure.Failure.TheVariants.{Refused, Failed, OutOfMemory}
 
 -- the name of the file at a path in messages
 abbrev pub name_of : Option (List ℕ) → List ℕ
@@ -46,13 +45,16 @@ pub record IsPrepared (options : Options) (old new : Files) (left rest : Option 
   pub minified : IsMinifiedText options source table text
   pub saved : IsSaved options.map (map_file table) old new
 
--- the file at the path could not be read and is not there, or with no path the standard input,
--- unless an allocation failed
+-- the file at the path could not be read since it is not there, or with no path the standard input
+-- could not, unless an allocation failed
 abbrev pub IsUnread : Option (List ℕ) → Files → Failure → Type 0
-IsUnread path files (Refused message) = ⊥
-IsUnread None files (Failed message) = IsFailed (name_of None) (Failed message)
-IsUnread (Some path) files (Failed message) = HasNone files path × IsFailed path (Failed message)
-IsUnread path files OutOfMemory = Unit {0}
+IsUnread None files failure = IsFailed (name_of None) failure
+IsUnread (Some path) files failure = IsFailedFor (HasNone files path) path failure
+
+-- the file at the path could not be written, and contracts do not know what the files hold, unless
+-- an allocation failed
+abbrev pub IsUnwritten : List ℕ → Files → Failure → Type 0
+IsUnwritten path files failure = IsFailedFor (files.known ≡ false) path failure
 
 -- why nothing is written: the module could not be read, or it is refused, or its new names could
 -- not be written
@@ -60,7 +62,8 @@ pub data Stops (options : Options) (files : Files) (left rest : Option (List ℕ
   unread : IsUnread options.input files failure → Stops options files left rest failure
   refused : (source : List ℕ) → IsSource options.input files left rest source
       → IsRefused (name_of options.input) source failure → Stops options files left rest failure
-  unsaved : (path : List ℕ) → options.map ≡ Some path → IsFailed path failure → Stops options files left rest failure
+  unsaved : (path : List ℕ) → options.map ≡ Some path → IsUnwritten path files failure
+      → Stops options files left rest failure
 
 -- the text is the file at the path, or with no path it is written to the output
 abbrev pub IsWritten : Option (List ℕ) → List ℕ → Files → World → World → ℕ → Type 0
@@ -84,5 +87,5 @@ pub data IsRun (options : Options) (old new : World) (status : ℕ) : Type 0 whe
       → Reports failure old new status → Same old.files new.files → IsRun options old new status
   unwritten : (between : Files) (text path : List ℕ) (failure : Failure)
       → IsPrepared options old.files between old.left new.left text → options.output ≡ Some path
-      → IsFailed path failure → Reports failure old new status → Same between new.files
+      → IsUnwritten path between failure → Reports failure old new status → Same between new.files
       → IsRun options old new status

@@ -12,6 +12,9 @@ use std::io::Write;
 use wgsl_files::{Status, StoreError};
 use wgsl_program::say;
 
+/// What is reported where an allocation failed.
+pub const MEMORY: &str = "wgslmin: error: out of memory\n";
+
 /// The reason why a run writes no minified text, with its message.
 #[derive(Debug, Drop)]
 pub enum Failure {
@@ -70,13 +73,7 @@ impl Failure {
         match self {
             Failure::Refused(message) => say(errors, message.as_str(), Status::Refused),
             Failure::Failed(message) => say(errors, message.as_str(), Status::Failed),
-            Failure::OutOfMemory => {
-                say(
-                    errors,
-                    "wgslmin: error: out of memory\n",
-                    Status::OutOfMemory,
-                )
-            }
+            Failure::OutOfMemory => say(errors, MEMORY, Status::OutOfMemory),
         }
     }
 }

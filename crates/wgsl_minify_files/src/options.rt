@@ -6,7 +6,7 @@ ghost use Rattle.std.specs.Option.{option_copied, unwrap_or};
 ghost use Rattle.clap.specs.Words.{app_of, rule_of};
 ghost use Rattle.wgsl_minify_names.specs.View.{texts, which_view};
 ghost use Rattle.wgsl_minify_files.specs.Options as plain;
-ghost use Rattle.wgsl_minify_files.specs.View.{Gives};
+ghost use Rattle.wgsl_minify_files.specs.View.{options_view, Gives};
 
 use clap::error::ErrorKind;
 use clap::{Arg, ArgAction, Command, Error};
@@ -37,17 +37,31 @@ pub fn read_options<'a>(alloc: Global, arguments: &'a [String]) -> Result<Option
         return Err(command.error(ErrorKind::InvalidValue, WRONG_NAMES)?);
     };
     let keep = kept_names(alloc, matches.get_strs("keep"))?;
-    Ok(Options {
+    let options = Options {
         input: path_of(matches.get_str("FILE")),
         output: path_of(matches.get_str("output")),
         map: matches.get_str("map"),
         names,
         keep,
-    })
+    };
+    with_own_map(&mut command, options)
+}
+
+/// What is asked for, where the new names have a path of their own.
+fn with_own_map<'a>(command: &mut Command<'_>, options: Options<'a>) -> Result<Options<'a>, Error>
+    ensures { Gives (plain.with_own_map (options_view options.entry)) result }
+{
+    if is_taken(options.map, options.input, options.output) {
+        return Err(command.error(ErrorKind::ArgumentConflict, WRONG_MAP)?);
+    }
+    Ok(options)
 }
 
 /// What is wrong with another value of `--names`.
 const WRONG_NAMES: &str = "option '--names' takes none, locals or all";
+
+/// What is wrong with `--map -`, or with a path of `--map` that is another's.
+const WRONG_MAP: &str = "option '--map' takes a path of its own, not '-'";
 
 /// The end of the text of `--help`.
 const AFTER_HELP: &str = "\
@@ -134,6 +148,27 @@ fn path_of(value: Option<&str>) -> Option<&str>
     match value {
         Some("-") => None,
         _ => value,
+    }
+}
+
+/// Whether a path for the new names is `-`, or that of the module or of its text.
+fn is_taken(map: Option<&str>, input: Option<&str>, output: Option<&str>) -> bool
+    ensures { result ≡ plain.is_taken (option_copied map.entry)
+        (option_copied input.entry) (option_copied output.entry) }
+{
+    match map {
+        Some(path) => path == "-" || is_at(path, input) || is_at(path, output),
+        None => false,
+    }
+}
+
+/// Whether a path is this one.
+fn is_at(path: &str, other: Option<&str>) -> bool
+    ensures { result ≡ plain.is_at path.now (option_copied other.entry) }
+{
+    match other {
+        Some(other) => path == other,
+        None => false,
     }
 }
 

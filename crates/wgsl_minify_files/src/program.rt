@@ -1,23 +1,18 @@
 //! The program: what its arguments ask for.
 
-ghost use Rattle.std.specs.Prelude.{◌≡◌, ℕ, List, Option, map, string_bytes};
-ghost use Rattle.wgsl_files.specs.Files.{Files};
+ghost use Rattle.std.specs.Prelude.{map, string_bytes};
 ghost use Rattle.wgsl_program.specs.World.{world, Says};
 ghost use Rattle.wgsl_minify_files.specs.Failures.{memory_text};
 ghost use Rattle.wgsl_minify_files.specs.Options.{asked};
-ghost use Rattle.wgsl_minify_files.specs.Start.{IsStart, IsTold};
-ghost use Rattle.wgsl_minify_files.specs.Start.{argument_text, is_display, is_memory};
-ghost use Rattle.clap.specs.Words.{kind_of};
+ghost use Rattle.wgsl_minify_files.specs.Start.{IsStart, argument_text};
 
-use crate::failure::Failure;
+use crate::failure::{Failure, MEMORY};
 use crate::options::read_options;
 use crate::run::run;
-use clap::Error;
-use clap::error::ErrorKind;
 use std::alloc::Global;
 use std::io::{Read, Write};
 use wgsl_files::{Status, Store};
-use wgsl_program::say;
+use wgsl_program::{say, tell};
 
 /// Runs `wgslmin` with these arguments, without its own name, over these files and streams.
 /// Returns its status.
@@ -37,41 +32,8 @@ pub fn start<S: Store, R: Read, W: Write, E: Write>(
 {
     match read_options(alloc, arguments) {
         Ok(options) => run(alloc, &options, store, input, output, errors),
-        Err(error) => tell(alloc, &error, output, errors),
+        Err(error) => tell(alloc, &error, MEMORY, output, errors),
     }
-}
-
-/// Writes the text of an error of arguments: what `--help` and `--version` print is for the output.
-fn tell<W: Write, E: Write>(alloc: Global, error: &Error, output: &mut W, errors: &mut E) -> u8
-    ensures { (files : Files) (left : Option (List ℕ)) → IsTold (kind_of error.now)
-        (world files left (W.contents output.old) (E.contents errors.old))
-        (world files left (W.contents output.new) (E.contents errors.new)) result }
-{
-    if is_memory(error.kind()) {
-        return refuse_memory(errors);
-    }
-    let Ok(text) = error.to_string(alloc) else {
-        return refuse_memory(errors);
-    };
-    if is_display(error.kind()) {
-        say(output, text.as_str(), Status::Success)
-    } else {
-        say(errors, text.as_str(), Status::Usage)
-    }
-}
-
-/// Whether an allocation failed.
-fn is_memory(kind: ErrorKind) -> bool
-    ensures { result ≡ is_memory kind }
-{
-    matches!(kind, ErrorKind::OutOfMemory)
-}
-
-/// Whether the text of an error is what `--help` or `--version` prints.
-fn is_display(kind: ErrorKind) -> bool
-    ensures { result ≡ is_display kind }
-{
-    matches!(kind, ErrorKind::DisplayHelp | ErrorKind::DisplayVersion)
 }
 
 /// Reports that an allocation failed.

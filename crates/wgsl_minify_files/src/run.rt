@@ -5,8 +5,7 @@ ghost use Rattle.std.specs.Option.{option_copied};
 ghost use Rattle.wgsl_files.specs.Files.{Same};
 ghost use Rattle.wgsl_program.specs.World.{world};
 ghost use Rattle.wgsl_tree_renamed.specs.NewNames.{pairs};
-ghost use Rattle.wgsl_minify_files.specs.Failures.{IsFailed};
-ghost use Rattle.wgsl_minify_files.specs.Runs.{IsSource, IsUnread, IsSaved, IsWritten};
+ghost use Rattle.wgsl_minify_files.specs.Runs.{IsSource, IsUnread, IsSaved, IsUnwritten};
 ghost use Rattle.wgsl_minify_files.specs.Runs.{IsPrepared, Stops, IsRun, map_file};
 ghost use Rattle.wgsl_minify_files.specs.View.{options_view};
 
@@ -108,7 +107,7 @@ fn write_map<S: Store>(
 ) -> Result<(), Failure>
     ensures saved { OnOk result (IsSaved (Some path.now) (map_file (pairs names.now))
         (S.files store.old) (S.files store.new)) }
-    ensures failed { IfErr result (IsFailed path.now) }
+    ensures failed { IfErr result (IsUnwritten path.now (S.files store.old)) }
     ensures same { OnErr result (Same (S.files store.old) (S.files store.new)) }
 {
     let mut text = map_text(alloc, names)?;

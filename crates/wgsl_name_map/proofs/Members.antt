@@ -1,40 +1,35 @@
 -- The members of an object, one more at a time.
-use Rattle.std.proofs.Common.{ℕ, ◌+◌, ◌<◌, ◌≤◌, ◌≡◌, refl, sym, ap, ◌∙◌, List, [], ◌∷◌, ◌++◌, None, Some, codes, get_or, length, map, take, append_assoc}
+use Rattle.std.proofs.Common.{ℕ, ◌+◌, ◌<◌, ◌≤◌, ◌≡◌, refl, sym, ap, ◌∙◌, List, [], ◌∷◌, ◌++◌, None, Some, codes, get_or, length, take, append_assoc, append-nil, arith}
 use Rattle.std.specs.List.{flat_map, join_by, slice_get}
-use Rattle.std.proofs.lemmas.List.{take_all}
+use Rattle.std.proofs.lemmas.List.{length-take-le, take_all, take_more}
+use Rattle.std.proofs.lemmas.Grind.{flat_map-append}
 use Rattle.std.proofs.lemmas.Option.{get_or_from_slice_get, none-some, slice_get-get_or, slice_get_within}
 use Rattle.wgsl_writer.proofs.Joins.{before}
-use Rattle.wgsl_tree_code.specs.Code.{fields_of, text}
-use Rattle.wgsl_tree_code.specs.Form.{quoted, further_fields, fields_form}
-use Rattle.wgsl_tree_form.proofs.Lists.{joined_more}
-use Rattle.wgsl_name_map.specs.Maps.{map_form}
+use Rattle.wgsl_name_map.specs.Maps.{map_form, member}
 
--- what is written of a pair
-abbrev pub member : List ℕ × List ℕ → List ℕ
-member pair = quoted pair.0 ++ codes ":" ++ quoted pair.1
+four : (a b c d : List ℕ) → a ++ (b ++ (c ++ d)) ≡ ((a ++ b) ++ c) ++ d
+four a b c d = simp append_assoc
 
-groups : (c n s v f e : List ℕ) → c ++ n ++ s ++ v ++ (f ++ e) ≡ c ++ (n ++ s ++ v) ++ f ++ e
-groups c n s v f e = simp append_assoc
+-- one item more
+joined_append : {X : Type 0} (f : X → List ℕ) (sep : List ℕ) (xs : List X) (x : X) →
+    join_by f sep (xs ++ (x ∷ [])) ≡ join_by f sep xs ++ before sep (length xs) ++ f x
+joined_append f sep [] x = append-nil (f x)
+joined_append f sep (y ∷ xs) x =
+    ap (λ u. f y ++ u) (flat_map-append (λ z. sep ++ f z) xs (x ∷ []))
+    ∙ ap (λ u. f y ++ (flat_map (λ z. sep ++ f z) xs ++ u)) (append-nil (sep ++ f x))
+    ∙ four (f y) (flat_map (λ z. sep ++ f z) xs) sep (f x)
+
+joined_more : {X : Type 0} (f : X → List ℕ) (sep : List ℕ) (xs : List X) (k : ℕ) (x : X) →
+    k < length xs → x ≡ get_or xs k x →
+    (join_by f sep (take k xs) ++ before sep k) ++ f x ≡ join_by f sep (take (k + 1) xs)
+joined_more f sep xs k x h e =
+    ap (λ n. (join_by f sep (take k xs) ++ before sep n) ++ f x) (sym (length-take-le k xs (omega
+    (arith, h))))
+    ∙ sym (joined_append f sep (take k xs) x)
+    ∙ ap (join_by f sep) (ap (λ z. take k xs ++ (z ∷ [])) e ∙ sym (take_more xs k x h))
 
 grouped : (a b c d : List ℕ) → ((a ++ b) ++ c) ++ d ≡ a ++ ((b ++ c) ++ d)
 grouped a b c d = simp append_assoc
-
-further : (pairs : List (List ℕ × List ℕ)) →
-    further_fields (fields_of (map (λ pair. (pair.0, text pair.1)) pairs))
-    ≡ flat_map (λ pair. codes "," ++ member pair) pairs ++ codes "}"
-further [] = refl
-further (p ∷ ps) =
-    ap (λ u. codes "," ++ quoted p.0 ++ codes ":" ++ quoted p.1 ++ u) (further ps)
-    ∙ groups (codes ",") (quoted p.0) (codes ":") (quoted p.1)
-    (flat_map (λ pair. codes "," ++ member pair) ps) (codes "}")
-
-members : (pairs : List (List ℕ × List ℕ)) →
-    fields_form (fields_of (map (λ pair. (pair.0, text pair.1)) pairs))
-    ≡ join_by member (codes ",") pairs ++ codes "}"
-members [] = refl
-members (p ∷ ps) =
-    ap (λ u. quoted p.0 ++ codes ":" ++ quoted p.1 ++ u) (further ps)
-    ∙ sym (append_assoc (member p) (flat_map (λ pair. codes "," ++ member pair) ps) (codes "}"))
 
 -- all members between the brackets
 pub all_written : (pairs : List (List ℕ × List ℕ)) (k : ℕ) → length pairs ≤ k →
@@ -42,7 +37,6 @@ pub all_written : (pairs : List (List ℕ × List ℕ)) (k : ℕ) → length pai
 all_written pairs k all =
     ap (λ ps. (codes "{" ++ join_by member (codes ",") ps) ++ codes "}") (take_all k pairs all)
     ∙ append_assoc (codes "{") (join_by member (codes ",") pairs) (codes "}")
-    ∙ ap (λ u. codes "{" ++ u) (sym (members pairs))
 
 -- one member more
 pub one_more : (pairs : List (List ℕ × List ℕ)) (k : ℕ) (name new : List ℕ) →

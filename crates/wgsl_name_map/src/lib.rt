@@ -2,5 +2,6 @@
 #![tactic(auto)]
 
 mod map;
+mod text;
 
 pub use map::map_text;

@@ -2,14 +2,14 @@
 
 ghost use Rattle.std.specs.Prelude.{◌≡◌, ◌++◌, IfOk, Some, codes, string_bytes};
 ghost use Rattle.std.specs.Fmt.{WritesOnOk};
-ghost use Rattle.wgsl_tree_code.specs.Form.{quoted};
 ghost use Rattle.wgsl_tree_renamed.specs.NewNames.{pairs};
 ghost use Rattle.wgsl_name_map.specs.Maps.{map_form};
+ghost use Rattle.wgsl_name_map.specs.Texts.{quoted};
 
+use crate::text::write_text;
 use std::alloc::{AllocError, Global};
 use std::fmt;
 use std::fmt::Write;
-use wgsl_tree_form::write_text;
 use wgsl_tree_renamed::NewNames;
 
 /// Names whose JSON is printed.

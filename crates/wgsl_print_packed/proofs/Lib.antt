@@ -3,3 +3,4 @@ pub mod Steps
 pub mod Printed
 pub mod Numbers
 pub mod Lines
+pub mod Escaped

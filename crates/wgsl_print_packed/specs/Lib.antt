@@ -1,1 +1,3 @@
+pub mod Notations
+pub mod Escapes
 pub mod Printing

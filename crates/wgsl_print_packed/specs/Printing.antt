@@ -1,7 +1,9 @@
 -- What is left of a print.
-use Rattle.std.specs.Prelude.{ℕ, List, [], ◌∷◌, ◌++◌, ◌≡◌, ◌+◌, ◌*◌, length, map, Result, MatchResult}
+use Rattle.std.specs.Prelude.{ℕ, List, [], ◌∷◌, ◌++◌, ◌≡◌, ◌+◌, ◌*◌, true, length, map, Result, MatchResult}
 use denote.Bor.{Bor}
-use Rattle.wgsl_model_packed.specs.Printing.{Prints}
+use Rattle.std.specs.List.{list_all}
+use Rattle.wgsl_model_packed.specs.Printing.{PrintsBy, in_place, is_plain}
+use Rattle.wgsl_print_packed.specs.Notations.{notation_of}
 use Rattle.wgsl_print_packed.specs.declared.error.PackedError.{PackedError}
 use Rattle.wgsl_print_packed.specs.declared.error.PackedError.TheVariants as errors
 use Rattle.wgsl_print_packed.specs.declared.printer.Printer.{Printer}
@@ -23,20 +25,28 @@ places_left printer = printer.places.now ++ joined printer.outer.items
 pub record IsLeft (printer : Printer) (text : List ℕ) : Type 0 where
   pub end : List ℕ
   pub whole : text ≡ printer.text.items ++ end
-  pub prints : Prints printer.depth (places_left printer) printer.form.now end []
+  pub prints : PrintsBy (notation_of printer.notation) printer.depth (places_left printer) printer.form.now end []
 
 -- more is printed, and what the rest prints follows it
 pub record HasPrinted (before after : Printer) : Type 0 where
   pub first : List ℕ
   pub wrote : after.text.items ≡ before.text.items ++ first
-  pub prints : (end : List ℕ) → Prints after.depth (places_left after) after.form.now end []
-      → Prints before.depth (places_left before) before.form.now (first ++ end) []
+  pub prints : (end : List ℕ)
+      → PrintsBy (notation_of after.notation) after.depth (places_left after) after.form.now end []
+      → PrintsBy (notation_of before.notation) before.depth (places_left before) before.form.now (first ++ end) []
 
 -- more of the text is printed, unless an allocation failed
 abbrev pub Continues : Printer → Result (Unit {0}) PackedError → Printer → Type 0
 Continues before result after = (text : List ℕ) → IsLeft before text →
     MatchResult result (λ _. IsLeft after text) (λ error. error ≡ errors.OutOfMemory)
 
--- the steps that are left, at most: a rule has fewer than 64 bytes
+-- in a place for a rule its text begins with what is printed here, and goes on with some places
+pub record Begins (place : ℕ) (text before after places : List ℕ) : Type 0 where
+  pub first : List ℕ
+  pub wrote : after ≡ before ++ first
+  pub plain : list_all is_plain first ≡ true
+  pub whole : in_place place text ≡ first ++ places
+
+-- the steps that are left, at most: a rule has fewer than 256 bytes
 abbrev pub size : Printer → ℕ
-size printer = 64 * length printer.form.now + (length (places_left printer) + length printer.outer.items)
+size printer = 256 * length printer.form.now + (length (places_left printer) + length printer.outer.items)

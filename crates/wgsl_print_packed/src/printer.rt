@@ -1,19 +1,22 @@
 //! What of a packed form is printed, and what is left.
 
 ghost use Rattle.std.specs.Prelude.{ℕ, List, [], ◌∷◌, ◌≡◌, ◌≢◌, ◌+◌, ◌<◌, ◌≤◌, ◌++◌, true, length, slice_index, codes, MatchResult, OnOk, IfOk};
-ghost use Rattle.wgsl_model_packed.specs.Printing.{Prints, is_plain};
-ghost use Rattle.wgsl_print_packed.specs.Printing.{Continues, HasPrinted, IsLeft, joined, places_left, size};
+ghost use Rattle.wgsl_model_packed.specs.Printing.{PrintsBy, is_plain, is_rule};
+ghost use Rattle.wgsl_print_packed.specs.Printing.{Begins, Continues, HasPrinted, IsLeft, joined, places_left, size};
+ghost use Rattle.wgsl_print_packed.specs.Notations.{notation_of};
 ghost use Rattle.wgsl_print_packed.specs.declared.error.PackedError.TheVariants as errors;
 
 use crate::error::PackedError;
-use crate::reading::{after_span, split_text};
-use crate::rule::rule;
+use crate::notation::Notation;
+use crate::reading::{split_span, split_text};
 use crate::writing;
-use std::alloc::Global;
+use std::alloc::{AllocError, Global};
 
 /// A print of a packed form, up to a place in the text of a rule.
 #[derive(Drop)]
 pub(crate) struct Printer<'f> {
+    /// What the form is printed as.
+    notation: Notation,
     /// What is left of the form.
     form: &'f [u8],
     /// What is left of the text of a rule.
@@ -28,15 +31,22 @@ pub(crate) struct Printer<'f> {
 
 impl<'f> Printer<'f> {
     /// Creates a print that has yet to begin.
-    pub(crate) fn new(alloc: Global, form: &'f [u8]) -> Result<Self, PackedError>
+    pub(crate) fn new(
+        alloc: Global,
+        notation: Notation,
+        form: &'f [u8],
+    ) -> Result<Self, PackedError>
         ensures printed { IfOk result (λ printer. (end : List ℕ) →
-            Prints printer.depth (places_left printer) printer.form.now end [] →
-            Prints 0 (codes "$") form.now (printer.text.items ++ end) []) }
-        ensures taken { (text : List ℕ) → Prints 0 (codes "$") form.now text [] → MatchResult result
+            PrintsBy (notation_of printer.notation) printer.depth (places_left printer)
+            printer.form.now end [] →
+            PrintsBy (notation_of notation) 0 (codes "$") form.now (printer.text.items ++ end) []) }
+        ensures taken { (text : List ℕ) →
+            PrintsBy (notation_of notation) 0 (codes "$") form.now text [] → MatchResult result
             (λ printer. IsLeft printer text) (λ error. error ≡ errors.OutOfMemory) }
     {
         let text = Vec::with_capacity(alloc, form.len())?;
         Ok(Printer {
+            notation,
             form,
             places: b"$",
             outer: Vec::new(alloc),
@@ -84,9 +94,9 @@ impl<'f> Printer<'f> {
         ensures smaller { OnOk result (size self.new < size self.old) }
     {
         match place {
-            b'$' => self.enter_rule(rest),
-            b'#' => self.write_text(rest),
-            b'%' => self.skip_span(rest),
+            b'$' | b'&' | b'?' => self.enter_rule(place, rest),
+            b'#' => self.print_text(rest),
+            b'%' => self.print_span(rest),
             b'\n' => self.break_line(rest),
             b'^' => self.indent(rest),
             b'~' => self.unindent(rest),
@@ -95,8 +105,9 @@ impl<'f> Printer<'f> {
     }
 
     /// Continues with the text of the rule whose number is next.
-    fn enter_rule(&mut self, rest: &'static [u8]) -> Result<(), PackedError>
-        requires { self.old.places.now ≡ 36 ∷ rest.now }
+    fn enter_rule(&mut self, place: u8, rest: &'static [u8]) -> Result<(), PackedError>
+        requires rule { is_rule place ≡ true }
+        requires at { self.old.places.now ≡ place ∷ rest.now }
         ensures printed { OnOk result (HasPrinted self.old self.new) }
         ensures taken { Continues self.old result self.new }
         ensures smaller { OnOk result (size self.new < size self.old) }
@@ -104,37 +115,39 @@ impl<'f> Printer<'f> {
         let Some((number, form)) = self.form.split_first() else {
             return Err(PackedError::NotPacked);
         };
-        let Some(places) = rule(*number) else {
+        let Some(text) = self.notation.rule(*number) else {
             return Err(PackedError::NotPacked);
         };
         keep_rest(rest, &mut self.outer)?;
         self.form = form;
-        self.places = places.as_bytes();
+        self.places = begin(place, text.as_bytes(), &mut self.text)?;
         Ok(())
     }
 
-    /// Writes the text that is next.
-    fn write_text(&mut self, rest: &'static [u8]) -> Result<(), PackedError>
+    /// Prints the text that is next.
+    fn print_text(&mut self, rest: &'static [u8]) -> Result<(), PackedError>
         requires { self.old.places.now ≡ 35 ∷ rest.now }
         ensures printed { OnOk result (HasPrinted self.old self.new) }
         ensures taken { Continues self.old result self.new }
         ensures smaller { OnOk result (size self.new < size self.old) }
     {
         let (text, form) = split_text(self.form)?;
-        writing::write_text(text, self.depth, &mut self.text)?;
+        self.notation.write_text(text, self.depth, &mut self.text)?;
         self.form = form;
         self.places = rest;
         Ok(())
     }
 
-    /// Passes over the span that is next.
-    fn skip_span(&mut self, rest: &'static [u8]) -> Result<(), PackedError>
+    /// Prints the span that is next.
+    fn print_span(&mut self, rest: &'static [u8]) -> Result<(), PackedError>
         requires { self.old.places.now ≡ 37 ∷ rest.now }
         ensures printed { OnOk result (HasPrinted self.old self.new) }
         ensures taken { Continues self.old result self.new }
         ensures smaller { OnOk result (size self.new < size self.old) }
     {
-        self.form = after_span(self.form)?;
+        let (start, end, form) = split_span(self.form)?;
+        self.notation.write_span(start, end, &mut self.text)?;
+        self.form = form;
         self.places = rest;
         Ok(())
     }
@@ -196,6 +209,21 @@ impl<'f> Printer<'f> {
     }
 }
 
+/// Returns the text of a rule in a place, once a comma before it is printed.
+fn begin(place: u8, text: &'static [u8], out: &mut Vec<u8>) -> Result<&'static [u8], AllocError>
+    ensures { IfOk result (λ places.
+        Begins place text.now out.old.items out.new.items places.now) }
+{
+    match place {
+        b'&' if !text.is_empty() => {
+            out.push(b',')?;
+            Ok(text)
+        }
+        b'?' if text.is_empty() => Ok(b"null"),
+        _ => Ok(text),
+    }
+}
+
 /// Keeps what is left of a text, unless that is nothing.
 fn keep_rest(rest: &'static [u8], outer: &mut Vec<&'static [u8]>) -> Result<(), PackedError>
     ensures kept { MatchResult result
@@ -229,5 +257,5 @@ fn plain_length(places: &[u8]) -> usize
 fn is_plain(byte: u8) -> bool
     ensures { result ≡ is_plain byte }
 {
-    !matches!(byte, b'\n' | b'#' | b'$' | b'%' | b'^' | b'~')
+    !matches!(byte, b'\n' | b'#' | b'$' | b'%' | b'&' | b'?' | b'^' | b'~')
 }

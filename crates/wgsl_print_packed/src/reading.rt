@@ -1,6 +1,6 @@
 //! Texts and spans at the front of a packed form.
 
-ghost use Rattle.std.specs.Prelude.{ℕ, List, ◌≡◌, ◌+◌, ◌++◌, ◌<◌, ◌^◌, ◌≤◌, length, MatchResult, IfOk};
+ghost use Rattle.std.specs.Prelude.{ℕ, List, ◌≡◌, ◌+◌, ◌++◌, ◌<◌, ◌^◌, ◌≤◌, ◌%◌, length, MatchResult, IfOk};
 ghost use Rattle.grammar.specs.Tokens.{Span};
 ghost use Rattle.wgsl_model_packed.specs.Printing.{packed_number, packed_span, packed_text};
 
@@ -9,8 +9,8 @@ use crate::error::PackedError;
 /// Splits a number off the front of a form.
 fn split_number(form: &[u8]) -> Result<(u64, &[u8]), PackedError>
     ensures read { IfOk result (λ p. form.now ≡ packed_number p.0 ++ p.1.now) }
-    ensures number { (n : ℕ) (left : List ℕ) → n < 2 ^ 64 → form.now ≡ packed_number n ++ left →
-        MatchResult result (λ p. (p.0 ≡ n) × (p.1.now ≡ left)) (λ _. ⊥) }
+    ensures number { (n : ℕ) (left : List ℕ) → form.now ≡ packed_number n ++ left →
+        MatchResult result (λ p. (p.0 ≡ n % 2 ^ 64) × (p.1.now ≡ left)) (λ _. ⊥) }
     ensures length { IfOk result (λ p. length p.1.now + 8 ≡ length form.now) }
 {
     match form.split_first_chunk::<8>() {
@@ -34,15 +34,16 @@ pub(crate) fn split_text(form: &[u8]) -> Result<(&[u8], &[u8]), PackedError>
     Ok(left.split_at(size))
 }
 
-/// Returns what is after a span at the front of a form.
-pub(crate) fn after_span(form: &[u8]) -> Result<&[u8], PackedError>
-    ensures read { IfOk result (λ rest. (span : Span) × (form.now ≡ packed_span span ++ rest.now)) }
+/// Splits a span off the front of a form.
+pub(crate) fn split_span(form: &[u8]) -> Result<(u64, u64, &[u8]), PackedError>
+    ensures read { IfOk result (λ p.
+        form.now ≡ packed_span (record { start = p.0; end = p.1 }) ++ p.2.now) }
     ensures span { (span : Span) (left : List ℕ) → form.now ≡ packed_span span ++ left →
-        MatchResult result (λ rest. rest.now ≡ left) (λ _. ⊥) }
-    ensures shorter { IfOk result (λ rest. length rest.now ≤ length form.now) }
+        MatchResult result (λ p. (p.0 ≡ span.start % 2 ^ 64) × (p.1 ≡ span.end % 2 ^ 64)
+        × (p.2.now ≡ left)) (λ _. ⊥) }
+    ensures shorter { IfOk result (λ p. length p.2.now ≤ length form.now) }
 {
-    match form.get(16..) {
-        Some(left) => Ok(left),
-        None => Err(PackedError::NotPacked),
-    }
+    let (start, left) = split_number(form)?;
+    let (end, left) = split_number(left)?;
+    Ok((start, end, left))
 }

@@ -32,7 +32,7 @@ fn break_deep_line(depth: usize, out: &mut Vec<u8>) -> Result<(), AllocError>
 }
 
 /// Writes a text with the spaces of a depth after each LF.
-pub(crate) fn write_text(text: &[u8], depth: usize, out: &mut Vec<u8>) -> Result<(), AllocError>
+pub(crate) fn write_lines(text: &[u8], depth: usize, out: &mut Vec<u8>) -> Result<(), AllocError>
     ensures { OnOk result (out.new.items ≡
         out.old.items ++ after_line_ends (spaces depth) text.now) }
 {

@@ -2,5 +2,7 @@
 #![tactic(auto)]
 
 mod text;
+mod told;
 
 pub use text::{put, say};
+pub use told::tell;

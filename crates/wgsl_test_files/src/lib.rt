@@ -1,9 +1,7 @@
-//! Tests of the command line, of `.editorconfig` files, of files that are rewritten, of diffs, and
+//! Tests of the arguments, of `.editorconfig` files, of files that are rewritten, of diffs, and
 //! of runs over files.
 #![tactic(auto)]
 
-#[cfg(test)]
-mod commands;
 #[cfg(test)]
 mod configs;
 #[cfg(test)]
@@ -16,5 +14,7 @@ mod ended;
 mod files;
 #[cfg(test)]
 mod host;
+#[cfg(test)]
+mod options;
 #[cfg(test)]
 mod runs;

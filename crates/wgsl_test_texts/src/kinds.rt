@@ -4,10 +4,10 @@ use std::alloc::{AllocError, Global};
 use std::fmt;
 use wgsl_error::{Error, ErrorKind};
 use wgsl_parser::{FromSource, parse_str};
+use wgsl_print_packed::{Notation, print_packed};
 use wgsl_span::Span;
 use wgsl_tree_attribute::{Attribute, AttributeNode};
 use wgsl_tree_expression::Expression;
-use wgsl_tree_form::{Form, write_form};
 use wgsl_tree_packed::{packed_form, packed_module};
 use wgsl_tree_statement::Statement;
 use wgsl_tree_unit::{GlobalDeclaration, GlobalDirective, TranslationUnit};
@@ -27,7 +27,7 @@ pub struct Around {
 }
 
 /// A tree that is read by itself.
-pub trait Tree: Form + fmt::Display + PartialEq + Drop {
+pub trait Tree: fmt::Display + PartialEq + Drop {
     /// Reads the tree that a text is.
     fn read(alloc: Global, text: &str) -> Result<Self, Error>;
 
@@ -44,11 +44,10 @@ pub trait Tree: Form + fmt::Display + PartialEq + Drop {
     fn clear(&mut self) {}
 }
 
-/// Returns the text form of a tree.
-pub fn form_of<T: Tree>(alloc: Global, tree: &T) -> Result<String, AllocError> {
-    let mut form = String::new(alloc);
-    match write_form(tree, &mut form) {
-        Ok(()) => Ok(form),
+/// Returns the JSON of a tree.
+pub fn json_of<T: Tree>(alloc: Global, tree: &T) -> Result<String, AllocError> {
+    match print_packed(alloc, Notation::Json, &tree.packed(alloc)?) {
+        Ok(json) => String::from_utf8(json).map_err(|_| AllocError),
         Err(_) => Err(AllocError),
     }
 }

@@ -1,4 +1,4 @@
-//! What each call and each program returns for a module, or for a text that is not a module.
+//! What each call and `wgslfmt` return for a module, or for a text that is not a module.
 
 use crate::facts::Facts;
 use crate::faults::see_fault;
@@ -43,20 +43,16 @@ pub fn see_tidied(text: &str, facts: &mut Facts<'_>) -> Result<(), AllocError> {
             see_formatted(text, &formatted, facts)?;
             facts.answer("printed", &formatted)
         }
-        Err(error) => {
-            let is_told = rejects(alloc, Call::RunWgsltidy, text, &error)?;
-            facts.expect(is_told, "wgsltidy reports the fault")?;
-            see_fault(error, text, facts)
-        }
+        Err(error) => see_fault(error, text, facts),
     }
 }
 
-/// Each call and each program accepts a module.
+/// Each call and `wgslfmt` accept a module.
 fn see_module(text: &str, printed: &str, facts: &mut Facts<'_>) -> Result<(), AllocError> {
     let alloc = facts.alloc;
     let is_accepted = is_same_in_calls(alloc, text, None)?;
     facts.expect(is_accepted, "each call accepts a module")?;
-    let is_printed = writes(alloc, Call::RunWgslfmt, text.as_bytes(), 0, printed, "");
+    let is_printed = writes(alloc, Call::Run, text.as_bytes(), 0, printed, "");
     facts.expect(is_printed, "wgslfmt prints a module as the library does")?;
     match tidy(alloc, text) {
         Ok(formatted) => see_formatted(text, &formatted, facts),
@@ -64,25 +60,26 @@ fn see_module(text: &str, printed: &str, facts: &mut Facts<'_>) -> Result<(), Al
     }
 }
 
-/// Each call and each program rejects a text that is not a module with the same fault.
+/// Each call and `wgslfmt` reject a text that is not a module with the same fault.
 fn see_refused(error: &Error, text: &str, facts: &mut Facts<'_>) -> Result<(), AllocError> {
     let alloc = facts.alloc;
     let is_same = is_same_in_calls(alloc, text, Some(error))?;
     facts.expect(is_same, "each call rejects a text with the same fault")?;
-    let is_same = rejects(alloc, Call::RunWgslfmt, text, error)?;
+    let line = line_of(alloc, error)?;
+    let is_same = writes(alloc, Call::Run, text.as_bytes(), 1, "", &line);
     facts.expect(is_same, "wgslfmt rejects a text with the same fault")?;
-    let is_tidied_alike = rejects(alloc, Call::RunWgsltidy, text, error)?;
-    if is_of_tokens(error, text) {
-        return facts.expect(
-            is_tidied_alike,
-            "wgsltidy rejects a text with the same fault",
-        );
-    }
+    let is_of_tokens = is_of_tokens(error, text);
     match tidy(alloc, text) {
-        Ok(formatted) => see_formatted(text, &formatted, facts),
+        Ok(formatted) => {
+            facts.expect(!is_of_tokens, "`tidy` rejects a text with the same fault")?;
+            see_formatted(text, &formatted, facts)
+        }
         Err(other) => {
-            let is_told = rejects(alloc, Call::RunWgsltidy, text, &other)? && !is_tidied_alike;
-            facts.expect(is_told, "wgsltidy reports a fault of the tokens")
+            let is_same = line_of(alloc, &other)? == line;
+            facts.expect(
+                is_same == is_of_tokens,
+                "`tidy` returns the first fault of the tokens",
+            )
         }
     }
 }
@@ -90,16 +87,10 @@ fn see_refused(error: &Error, text: &str, facts: &mut Facts<'_>) -> Result<(), A
 /// Formatting does not change a formatted text, and a module is printed as its source.
 fn see_formatted(text: &str, formatted: &str, facts: &mut Facts<'_>) -> Result<(), AllocError> {
     let alloc = facts.alloc;
-    let is_written = writes(alloc, Call::RunWgsltidy, text.as_bytes(), 0, formatted, "");
-    facts.expect(is_written, "wgsltidy formats a text as the library does")?;
-    let is_kept = writes(
-        alloc,
-        Call::RunWgsltidy,
-        formatted.as_bytes(),
-        0,
-        formatted,
-        "",
-    );
+    let is_kept = match tidy(alloc, formatted) {
+        Ok(again) => again.as_str() == formatted,
+        Err(_) => false,
+    };
     facts.expect(is_kept, "formatting does not change a formatted text")?;
     let Ok(unit) = parse_str(alloc, without_mark(text)) else {
         return Ok(());
@@ -122,10 +113,9 @@ fn is_same_in_calls(alloc: Global, text: &str, fault: Option<&Error>) -> Result<
     Ok(faults.iter().all(|found| found.as_ref() == fault))
 }
 
-/// Whether a program rejects a text with this fault.
-fn rejects(alloc: Global, call: Call, text: &str, error: &Error) -> Result<bool, AllocError> {
-    let line = format!(in alloc; "{}\n", error.without_expected())?;
-    Ok(writes(alloc, call, text.as_bytes(), 1, "", &line))
+/// The line with which `wgslfmt` reports a fault.
+fn line_of(alloc: Global, error: &Error) -> Result<String, AllocError> {
+    format!(in alloc; "{}\n", error.without_expected())
 }
 
 /// Whether a fault is that of a token or of the end, which `tidy` finds too unless a mark is first.

@@ -1,7 +1,7 @@
 //! Nodes of trees, by the paths that rows name them by.
 
 use crate::facts::Facts;
-use crate::kinds::{Tree, form_of};
+use crate::kinds::{Tree, json_of};
 use crate::trees::{moved_text, see_printed};
 use serde_json::Value;
 use std::alloc::{AllocError, Global};
@@ -14,15 +14,17 @@ use wgsl_tree_unit::GlobalDeclaration;
 /// How deep the print of a node may be in that of the whole.
 const LEVELS: usize = 4;
 
-/// A node: its text form, its span if it has one, and the last name of its path.
+/// A node: its JSON, its span if it has one, and the last name of its path.
 #[derive(Clone, Copy)]
 struct Part<'v> {
     form: &'v Value,
+    /// How many links of a chain are of the node, after what is leftmost.
+    links: usize,
     span: Option<Span>,
     name: &'v str,
 }
 
-/// The text of a row with its tree: the text form and the print.
+/// The text of a row with its tree: the JSON and the print.
 #[derive(Clone, Copy)]
 struct Whole<'w> {
     alloc: Global,
@@ -43,8 +45,8 @@ pub fn see_parts<T: Tree>(
     if !asked.any(|field| is_of_node(field.words)) {
         return Ok(());
     }
-    let Ok(form) = Value::from_str(alloc, &form_of(alloc, tree)?) else {
-        return facts.expect(false, "a text form is JSON");
+    let Ok(form) = Value::from_str(alloc, &json_of(alloc, tree)?) else {
+        return facts.expect(false, "the JSON of a tree is JSON");
     };
     let whole = Whole {
         alloc,
@@ -82,14 +84,14 @@ impl Whole<'_> {
             ("span", Some(Span { start, end })) => {
                 facts.tell(words, &format!(in self.alloc; "{start}..{end}")?)
             }
-            ("variant", _) => facts.tell(words, &variant_of(part.form).unwrap_or("none")),
+            ("variant", _) => facts.tell(words, &part.variant().unwrap_or("none")),
             ("count", _) => facts.tell(words, &count_of(part.form)),
             _ => Ok(()),
         }
     }
 
     /// The print of a node. One without a span, or that is read as nothing by itself, is looked for
-    /// in the whole print; a name is the text that the form has.
+    /// in the whole print; a name is the text that the JSON has.
     fn text_of(
         self,
         part: Part<'_>,
@@ -140,8 +142,8 @@ impl Whole<'_> {
             facts.expect(false, "the text of a node is read by itself")?;
             return Ok(String::new(self.alloc));
         };
-        let form = Value::from_str(self.alloc, &form_of(self.alloc, &tree)?);
-        let is_same = form.is_ok_and(|form| form == *part.form);
+        let form = Value::from_str(self.alloc, &json_of(self.alloc, &tree)?);
+        let is_same = form.is_ok_and(|form| part.is(&form));
         facts.expect(is_same, "the text of a node is read as the node")?;
         see_printed(&tree, &text, facts)
     }
@@ -163,11 +165,7 @@ impl Whole<'_> {
 
 /// The node at a path of a tree.
 fn part_at<'v>(form: &'v Value, path: &'v str) -> Option<Part<'v>> {
-    let mut part = Part {
-        form,
-        span: None,
-        name: "",
-    };
+    let mut part = Part::of(form, "")?;
     if path == "." {
         return Some(part);
     }
@@ -180,31 +178,71 @@ fn part_at<'v>(form: &'v Value, path: &'v str) -> Option<Part<'v>> {
 impl<'v> Part<'v> {
     /// The item of this number, or the field of this name.
     fn step(self, step: &'v str) -> Option<Part<'v>> {
-        let fields = fields_of(self.form);
-        let Ok(index) = step.parse::<usize>() else {
-            return Part::of(fields.get(step)?, step);
-        };
-        let item = fields.get(index)?;
-        match self.name {
-            "template_args" => Part::of(item.get("expression")?, self.name),
-            _ => Part::of(item, self.name),
+        if let Some(link) = self.last_link() {
+            let field = fields_of(link).get(step)?;
+            return match step {
+                "left" | "base" => self.before(span_of(field)?, step),
+                _ => Part::of(field, step),
+            };
+        }
+        match (self.form, step.parse::<usize>()) {
+            (Value::String(_), _) if step == "ident" => Part::of(self.form, step),
+            (form, Ok(index)) => Part::of(fields_of(form).get(index)?, self.name),
+            (form, Err(_)) => Part::of(fields_of(form).get(step)?, step),
         }
     }
 
-    /// A node with this form and name.
+    /// A node with this JSON and name.
     fn of(form: &'v Value, name: &'v str) -> Option<Part<'v>> {
-        let (Some(span), Some(node)) = (form.get("span"), form.get("node")) else {
-            return Some(Part {
-                form,
-                span: None,
-                name,
-            });
+        let (form, span) = match (form.get("span"), form.get("node")) {
+            (Some(span), Some(node)) => (node, Some(span_of(span)?)),
+            _ => (form, None),
         };
+        let links = chain_in(form).map_or(0, |items| items.len().saturating_sub(1));
         Some(Part {
-            form: node,
-            span: Some(span_of(span)?),
+            form,
+            links,
+            span,
             name,
         })
+    }
+
+    /// The last link of a chain.
+    fn last_link(self) -> Option<&'v Value> {
+        match self.links {
+            0 => None,
+            links => chain_in(self.form)?.get(links),
+        }
+    }
+
+    /// What is before the last link of a chain.
+    fn before(self, span: Span, name: &'v str) -> Option<Part<'v>> {
+        let (form, links) = match self.links {
+            0 | 1 => (chain_in(self.form)?.first()?, 0),
+            links => (self.form, links - 1),
+        };
+        Some(Part {
+            form,
+            links,
+            span: Some(span),
+            name,
+        })
+    }
+
+    /// The name of a node's variant; of a literal, that of its kind.
+    fn variant(self) -> Option<&'v str> {
+        variant_of(self.last_link().unwrap_or(self.form))
+    }
+
+    /// Whether this is the JSON of the node.
+    fn is(self, form: &Value) -> bool {
+        match (chain_in(self.form), chain_in(form)) {
+            (Some(items), Some(others)) => {
+                let mut pairs = items.iter().zip(others.iter());
+                others.len() == self.links + 1 && pairs.all(|(item, other)| *item == *other)
+            }
+            _ => *form == *self.form,
+        }
     }
 }
 
@@ -231,12 +269,21 @@ fn fields_of(mut form: &Value) -> &Value {
     form
 }
 
-/// The name of a node's variant; of a literal, that of its kind.
+/// What is leftmost in a chain, and its links.
+fn chain_in(form: &Value) -> Option<&Vec<Value>> {
+    match variant_in(form) {
+        Some(("Chain", Value::Array(items))) => Some(items),
+        _ => None,
+    }
+}
+
+/// The name of the variant that JSON is of: a name is a type or an identifier.
 fn variant_of(form: &Value) -> Option<&str> {
     match variant_in(form) {
         Some(("Literal", literal)) => variant_of(literal),
+        Some(("Template", _)) => Some("TypeOrIdentifier"),
         Some((name, _)) => Some(name),
-        None => form.as_str(),
+        None => form.as_str().map(|_| "TypeOrIdentifier"),
     }
 }
 

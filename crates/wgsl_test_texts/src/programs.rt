@@ -1,23 +1,21 @@
-//! The calls of the two programs.
+//! The calls of `wgslfmt`.
 
 use std::alloc::Global;
 use std::io::{Read, Write};
-use wgsl_format::{Tidier, run, run_with, start};
+use wgsl_format::{run, start};
 
-/// A call of one of the programs: a run, or `start` of `wgslfmt` with a number of arguments.
+/// A call of the program: a run, or `start` with a number of arguments.
 #[derive(Clone, Copy)]
 pub enum Call {
-    RunWgslfmt,
-    RunWgsltidy,
-    StartWgslfmt(usize),
+    Run,
+    Start(usize),
 }
 
 impl Call {
     /// Returns the call that a row names, with a number of arguments.
     pub fn named(name: &str, arguments: usize) -> Option<Call> {
         match name {
-            "wgslfmt" => Some(Call::StartWgslfmt(arguments)),
-            "wgsltidy" if arguments == 0 => Some(Call::RunWgsltidy),
+            "wgslfmt" => Some(Call::Start(arguments)),
             _ => None,
         }
     }
@@ -25,7 +23,7 @@ impl Call {
     /// Returns the call `run` that does the same as `start`, if there is one.
     pub fn run(self) -> Option<Call> {
         match self {
-            Call::StartWgslfmt(0) => Some(Call::RunWgslfmt),
+            Call::Start(0) => Some(Call::Run),
             _ => None,
         }
     }
@@ -39,9 +37,8 @@ impl Call {
         errors: &mut E,
     ) -> u8 {
         match self {
-            Call::RunWgslfmt => run(alloc, input, output, errors),
-            Call::RunWgsltidy => run_with(alloc, &Tidier { depth: 1_000 }, input, output, errors),
-            Call::StartWgslfmt(arguments) => start(alloc, arguments, input, output, errors),
+            Call::Run => run(alloc, input, output, errors),
+            Call::Start(arguments) => start(alloc, arguments, input, output, errors),
         }
     }
 }

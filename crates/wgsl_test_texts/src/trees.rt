@@ -2,11 +2,11 @@
 
 use crate::facts::Facts;
 use crate::faults::see_fault;
-use crate::kinds::{Tree, form_of};
+use crate::kinds::{Tree, json_of};
 use crate::parts::see_parts;
 use std::alloc::{AllocError, Global};
 use wgsl_parser::parse_str;
-use wgsl_print_packed::print_packed;
+use wgsl_print_packed::{Notation, print_packed};
 
 /// Sees the tree of a text, or what is wrong with the text.
 pub fn see_tree<T: Tree>(text: &str, facts: &mut Facts<'_>) -> Result<(), AllocError> {
@@ -66,7 +66,7 @@ pub fn see_printed<T: Tree>(
 ) -> Result<String, AllocError> {
     let printed = tree.to_string(facts.alloc)?;
     let form = tree.packed(facts.alloc)?;
-    let by_form = print_packed(facts.alloc, &form);
+    let by_form = print_packed(facts.alloc, Notation::Wgsl, &form);
     let is_same = by_form.is_ok_and(|text| text.as_slice() == printed.as_bytes());
     facts.expect(is_same, "the packed form of a tree prints as the tree does")?;
     see_in_module::<T>(text, &printed, facts)?;
@@ -90,7 +90,7 @@ fn see_in_module<T: Tree>(
     let moved = T::read(alloc, &moved_text(alloc, text, around.before.len())?);
     let is_same = match (T::in_module(&unit), moved) {
         (Some(there), Ok(moved)) => {
-            *there == moved && form_of(alloc, there)? == form_of(alloc, &moved)?
+            *there == moved && json_of(alloc, there)? == json_of(alloc, &moved)?
         }
         _ => false,
     };

@@ -36,7 +36,7 @@ body_as {d} {form} {last = last} e b = subst (λ (inside : List ℕ). Body d for
 pub body_last : {d n : ℕ} {front rest form inside last : List ℕ} → text_of_rule n ≡ Some (front ++ (126 ∷ rest))
     → Shows (suc d) front form inside → Shows d rest [] last → Body d (n ∷ form) inside last
 body_last {d} {front = front} {rest = rest} {last = last} e s t = record {
-  printed = λ places form printed left p. rule e (rw (append_assoc front (126 ∷ rest) places)
+  printed = λ places form printed left p. rule refl e (rw (append_assoc front (126 ∷ rest) places)
       (s.shown (126 ∷ (rest ++ places)) form (after_line_ends (spaces d) last ++ printed) left
       (back (t.shown places form printed left p))));
 }
@@ -48,7 +48,7 @@ body_more {d} {front = front} {form = f} {text = text} {more = more} {inside = i
   printed = λ places form printed left p.
       let gap = spaces (suc d) in
       let after = after_line_ends (spaces d) last ++ printed in
-      rule e (rw (
+      rule refl e (rw (
         append_assoc front (codes "$") places,
         append_assoc f more form,
         after_append gap text inside,
@@ -133,7 +133,7 @@ pub shown_indented : {d : ℕ} {form text : List ℕ} → IsFilled text → Show
 shown_indented {d} {form} {text} h s = record {
   shown = λ places more printed left p.
       simp (after_append (spaces d) (indented text) (codes "\n"), indented_deeper d text h, append_assoc, append-nil)
-      (rule refl (deeper (plain refl (plain refl (plain refl (plain refl
+      (rule refl refl (deeper (plain refl (plain refl (plain refl (plain refl
       (s.shown (126 ∷ (10 ∷ places)) more (10 ∷ (spaces d ++ printed)) left (back (line_break p)))))))));
 }
 

@@ -6,7 +6,7 @@ use Rattle.wgsl_model.specs.Printed.Indentation.{after_line_ends}
 use Rattle.wgsl_writer.specs.Depth.{spaces}
 use Rattle.wgsl_writer.proofs.Indents.{after_append}
 use Rattle.wgsl_model_packed.specs.Rules.{chain_rule, component_rule, component_of_int_rule, index_rule, binary_rule, nothing_rule}
-use Rattle.wgsl_model_packed.specs.Printing.{packed_text, packed_span, text_of_rule, Prints.rule}
+use Rattle.wgsl_model_packed.specs.Printing.{packed_text, packed_span, text_of_rule, PrintsBy.rule}
 use Rattle.wgsl_theory_packed.specs.Shown.{Shows, Ends, Leads}
 use Rattle.wgsl_theory_packed.proofs.Shown.{◌before◌, last, last_closed, after_span, shown_of, shown_plain, shown_text}
 
@@ -34,7 +34,7 @@ one_more {d} {places} {first} {begun} {ended} n span form is leads ends = record
         append_assoc (after_line_ends gap begun) (after_line_ends gap text) more_printed,
       )
       (leads.led rest (n ∷ (span ++ (form ++ more_form))) (after_line_ends gap text ++ more_printed) left
-      (rule is (rw (append_assoc places (codes "$") rest, ← append_assoc span form more_form)
+      (rule refl is (rw (append_assoc places (codes "$") rest, ← append_assoc span form more_form)
       (ends.shows.shown (36 ∷ rest) more_form more_printed left h))));
 }
 
@@ -72,7 +72,7 @@ pub chain : {d : ℕ} {form printed : List ℕ} → Leads d form printed →
 chain {d} {form} {printed} leads = record {
   shown = λ places more_form more_printed left h.
       rw (append_assoc form (nothing_rule ∷ []) more_form)
-      (rule refl (leads.led places (nothing_rule ∷ more_form) more_printed left (rule refl h)));
+      (rule refl refl (leads.led places (nothing_rule ∷ more_form) more_printed left (rule refl refl h)));
 }
 
 -- the same where the last link's parts are before that

@@ -7,5 +7,6 @@ pub mod Declarations
 pub mod Blocks
 pub mod Statements
 pub mod Units
+pub mod Alike
 pub mod Told
 pub mod Derived

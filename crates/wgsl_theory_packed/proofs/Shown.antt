@@ -9,7 +9,7 @@ use Rattle.wgsl_model.specs.Printed.Indentation.{after_line_ends}
 use Rattle.wgsl_writer.specs.Depth.{spaces}
 use Rattle.wgsl_writer.proofs.Indents.{after_append}
 use Rattle.wgsl_writer.proofs.Within.{after_nothing}
-use Rattle.wgsl_model_packed.specs.Printing.{packed_text, packed_span, text_of_rule, is_plain, Prints, Prints.ended, Prints.plain, Prints.line_break, Prints.text, Prints.span, Prints.rule}
+use Rattle.wgsl_model_packed.specs.Printing.{packed_text, packed_span, text_of_rule, is_plain, Prints, PrintsBy.ended, PrintsBy.plain, PrintsBy.line_break, PrintsBy.text, PrintsBy.span, PrintsBy.rule}
 use Rattle.wgsl_theory_packed.specs.Shown.{Shows, Ends}
 
 -- the same text in another form
@@ -119,7 +119,7 @@ after_span s ends = record {
 pub shown_rule : {d n : ℕ} {places form printed : List ℕ} → text_of_rule n ≡ Some places →
     Shows d places form printed → Shows d (codes "$") (n ∷ form) printed
 shown_rule {n = n} {form = form} e s = record {
-  shown = λ places more printed left p. rule e (s.shown places more printed left p);
+  shown = λ places more printed left p. rule refl e (s.shown places more printed left p);
 }
 
 -- a whole form at the top

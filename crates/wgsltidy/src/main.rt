@@ -1,33 +1,22 @@
 //! Formats WGSL files in place, or the standard input to the standard output.
 #![tactic(auto)]
 
-use std::env::FillError;
 use std::io::ErrorKind;
 use std::process::ExitCode;
-use std::rt::Env;
 use wgsl_files::HostStore;
 use wgsl_format_files::{refuse_argument, refuse_memory, start};
-
-/// Reports that an allocation failed before the arguments are known. Without arguments the program
-/// is a filter, whose status is another.
-fn refuse(rt: &HostRuntime) -> u8 {
-    match rt.arg(1, &mut []) {
-        Err(FillError::NotPresent) => wgsl_format::refuse_memory(&mut rt.stderr()),
-        Ok(_) | Err(FillError::TooLong) => refuse_memory(&mut rt.stderr()),
-    }
-}
 
 fn main(rt: HostRuntime) -> ExitCode {
     let alloc = rt.alloc();
     let arguments = match std::env::args(&rt) {
         Ok(arguments) => arguments.skip(1).collect::<Vec<String>>(alloc),
         Err(error) if error.kind() == ErrorKind::OutOfMemory => {
-            return ExitCode::from(refuse(&rt));
+            return ExitCode::from(refuse_memory(&mut rt.stderr()));
         }
         Err(_) => return ExitCode::from(refuse_argument(&mut rt.stderr())),
     };
     let Ok(arguments) = arguments else {
-        return ExitCode::from(refuse(&rt));
+        return ExitCode::from(refuse_memory(&mut rt.stderr()));
     };
     ExitCode::from(start(
         alloc,

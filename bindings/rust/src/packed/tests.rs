@@ -6,7 +6,7 @@ use super::rules::{I32, INT, U32, UNIT};
 use super::{from_packed, to_packed, Made, Packed, Random, Unpacked, Writer, DEEPEST};
 use crate::calls;
 use crate::form::sealed::Numbered;
-use crate::form::{text_form, to_form, Form, Source};
+use crate::form::{Form, Source};
 use crate::span::{equal_with_spans, Span, Spanned};
 use crate::syntax::*;
 use std::path::Path;
@@ -38,7 +38,7 @@ fn check_print<T: Packed>(tree: &T) {
 /// Checks that a tree is read from its packed form.
 fn check_read<T: Form + Packed + Unpacked>(tree: &T) {
     let read: T = from_packed(&with_spans(tree)).expect("the packed form of a tree");
-    assert!(equal_with_spans(&read, tree), "{}", to_form(tree));
+    assert!(equal_with_spans(&read, tree));
 }
 
 /// Checks that a tree is read from its packed form, and how that prints.
@@ -47,11 +47,10 @@ fn check<T: Form + Packed + Unpacked>(tree: &T) {
     check_print(tree);
 }
 
-/// Checks the tree of a text: that its JSON and its packed form are those that the library writes.
+/// Checks the tree of a text: that its packed form is that which the library writes.
 fn check_text<T: Source + Packed>(text: &str) {
     let packed = calls::packed_form_of(T::NUMBER, text).expect(text);
     let tree: T = from_packed(&packed).expect(text);
-    assert_eq!(text_form::<T>(text), Ok(to_form(&tree)));
     assert!(with_spans(&tree) == packed, "{text}");
     check(&tree);
 }

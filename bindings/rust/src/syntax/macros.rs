@@ -1,6 +1,6 @@
 //! The macros that declare the types of the trees, each with what follows from its fields.
 
-/// Structs, whose form is an object of their fields in order.
+/// Structs.
 macro_rules! structs {
     ($($(#[$doc:meta])* $name:ident {
         $(#[$first_note:meta])* $first:ident: $first_type:ty,
@@ -13,18 +13,6 @@ macro_rules! structs {
             $(#[$first_note])*
             pub $first: $first_type,
             $($(#[$note])* pub $field: $type,)*
-        }
-
-        impl Written for $name {
-            fn write<'t>(&'t self, out: &mut Writer<'t>) {
-                out.push_str(concat!("{\"", stringify!($first), "\":"));
-                self.$first.write(out);
-                $(
-                    out.push_str(concat!(",\"", stringify!($field), "\":"));
-                    self.$field.write(out);
-                )*
-                out.push('}');
-            }
         }
 
         impl Coded for $name {
@@ -73,7 +61,7 @@ macro_rules! structs {
     };
 }
 
-/// Enums, whose form is the name of the variant, or an object of that name and what it holds.
+/// Enums.
 macro_rules! enums {
     ($($(#[$doc:meta])* $name:ident {
         $($(#[$note:meta])* $variant:ident $(($held:ty))?,)*
@@ -85,22 +73,12 @@ macro_rules! enums {
             $($(#[$note])* $variant $(($held))?,)*
         }
 
-        impl Written for $name {
-            fn write<'t>(&'t self, out: &mut Writer<'t>) {
-                match self {$(
-                    $name::$variant $((either!(held, $held)))? => {
-                        #[cfg(test)]
-                        super::kinds::note(stringify!($name), stringify!($variant));
-                        write_variant!(out, $variant $(either!(held, $held))?)
-                    }
-                )*}
-            }
-        }
-
         impl Coded for $name {
             fn code<'t>(&'t self, code: &mut Code<'t>) {
                 match self {$(
                     $name::$variant $((either!(held, $held)))? => {
+                        #[cfg(test)]
+                        super::kinds::note(stringify!($name), stringify!($variant));
                         code.text(stringify!($variant));
                         $(either!(held.code(code), $held);)?
                     }
@@ -158,18 +136,6 @@ macro_rules! enums {
         pub(super) const VARIANTS: &[(&str, &str)] =
             &[$($((stringify!($name), stringify!($variant)),)*)*];
     };
-}
-
-/// Writes a variant, with what it holds.
-macro_rules! write_variant {
-    ($out:ident, $variant:ident) => {
-        $out.push_str(concat!("\"", stringify!($variant), "\""))
-    };
-    ($out:ident, $variant:ident $held:expr) => {{
-        $out.push_str(concat!("{\"", stringify!($variant), "\":"));
-        $held.write($out);
-        $out.push('}');
-    }};
 }
 
 /// What is said of a variant that holds something: a pattern or an expression.

@@ -1,8 +1,8 @@
 use Rattle.std.proofs.Common.{sym, subst, ℕ, ◌+◌, ◌<◌, List, drop, get_or, length, map}
 use Rattle.std.proofs.lemmas.List.{at_drop_more}
-use Rattle.wgsl_command.specs.Commands as plain
-use Rattle.wgsl_command.specs.declared.command.Source.{Source}
-use Rattle.wgsl_command.specs.View.{source_view}
+use Rattle.wgsl_format_options.specs.Options as plain
+use Rattle.wgsl_format_options.specs.declared.options.Source.{Source}
+use Rattle.wgsl_format_options.specs.View.{source_view}
 use Rattle.wgsl_files.specs.Files.{Files}
 use Rattle.wgsl_format_files.specs.Inputs.{IsInputOf, FollowFor}
 use Rattle.wgsl_format_files.proofs.inputs.inputs_of.Goals as goal

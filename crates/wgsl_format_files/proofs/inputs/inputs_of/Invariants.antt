@@ -1,6 +1,6 @@
 use Rattle.std.proofs.Common.{List, [], drop, map}
-use Rattle.wgsl_command.specs.Commands.{Source}
-use Rattle.wgsl_command.specs.View.{source_view}
+use Rattle.wgsl_format_options.specs.Options.{Source}
+use Rattle.wgsl_format_options.specs.View.{source_view}
 use Rattle.wgsl_format_files.specs.Inputs.{input_view, FollowFor}
 use Rattle.wgsl_format_files.proofs.inputs.inputs_of.Given as goal
 

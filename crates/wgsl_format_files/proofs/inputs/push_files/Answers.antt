@@ -1,6 +1,6 @@
 use Rattle.std.proofs.Common.{◌≡◌, ◌∙◌, ap, refl, ℕ, false, List, [], ◌∷◌, ◌++◌}
 use Rattle.std.specs.Prelude.{Result, Ok, Err, OnOk}
-use Rattle.wgsl_command.specs.Commands as plain
+use Rattle.wgsl_format_options.specs.Options as plain
 use Rattle.wgsl_files.specs.Files.{Files}
 use Rattle.wgsl_files.proofs.Listings.{unknown_file}
 use Rattle.wgsl_format_files.specs.Inputs.{AreFilesOf}

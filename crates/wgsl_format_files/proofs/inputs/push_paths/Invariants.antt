@@ -1,6 +1,6 @@
 use Rattle.std.proofs.Common.{◌≡◌, ◌++◌, map, string_bytes, length}
 use Rattle.std.specs.Vec.Iter.{into_iter_items, into_iter_len}
-use Rattle.wgsl_command.specs.Commands as plain
+use Rattle.wgsl_format_options.specs.Options as plain
 use Rattle.wgsl_format_files.specs.Inputs.{input_view}
 use Rattle.wgsl_format_files.proofs.inputs.push_paths.Given as goal
 

@@ -1,4 +1,4 @@
-use Rattle.std.proofs.Common.{rules, ◌≡◌, ◌∙◌, ap, inl, inr, sym, ℕ, List, [], ◌∷◌, Option, None, map, flat_map, option_map, string_bytes, codes}
+use Rattle.std.proofs.Common.{rules, ◌≡◌, ◌∙◌, ap, inl, inr, sym, subst, ℕ, List, [], ◌∷◌, Option, None, map, flat_map, option_map, string_bytes, codes}
 use Rattle.std.proofs.lemmas.Result.{err_from_is_err_and}
 use Rattle.std.specs.List.{slice_split}
 use Rattle.std.specs.Option.{unwrap_or}
@@ -7,6 +7,7 @@ use Rattle.clap.specs.Words.{App, app_of, fault_of, found_of, matches_of, rows_o
 use Rattle.clap.specs.declared.error.kind.ErrorKind.TheVariants.{InvalidValue}
 use Rattle.wgsl_minify_names.specs.View.{which_view}
 use Rattle.wgsl_minify_files.specs.Options.{asked_with, is_comma, path_of, which_of}
+use Rattle.wgsl_minify_files.specs.View.{Gives}
 use Rattle.wgsl_minify_files.proofs.Asked.{is_plain, is_free, gives_error, asked_options, asked_rows}
 use Rattle.wgsl_minify_files.proofs.options.read_options.Goals as goal
 
@@ -40,7 +41,7 @@ returns c =
     let words = map string_bytes c.args.arguments.now in
     let is = c.in_ok-command.ensures in
     let found = found_of c.in_ok-matches.matches in
-    asked_options words (rows_of found)
+    subst (λ meant. Gives meant c.with_own_map.result) (sym (asked_options words (rows_of found)
     (ap (λ (a : App). fault_of a words) (sym is)
     ∙ c.in_ok-matches.ensures.kinds (ap is_simple_and_free is ∙ is_free))
     ((c.in_ok-matches.ensures.ok.2 (ap is_simple is ∙ is_plain)).0 ∙ ap (λ (a : App). matches_of a words) is)
@@ -57,4 +58,4 @@ returns c =
     (c.path_of-2.ensures ∙ ap path_of (c.get_str-3.ensures ∙ first_value-rows found (codes "output")))
     (c.get_str-4.ensures ∙ first_value-rows found (codes "map"))
     (c.in_ok-keep.ensures ∙ ap (λ (lists : Option (List (List ℕ))). flat_map (slice_split is_comma) (unwrap_or lists []))
-    (c.get_strs.ensures ∙ raw_values-rows found (codes "keep")))
+    (c.get_strs.ensures ∙ raw_values-rows found (codes "keep"))))) c.with_own_map.ensures

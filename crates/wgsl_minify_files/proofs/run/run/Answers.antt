@@ -1,6 +1,7 @@
-use Rattle.std.proofs.Common.{rules, ap, ◌≡◌, string_bytes, None}
+use Rattle.std.proofs.Common.{rules, ap, ◌≡◌, false, string_bytes, None}
 use Rattle.std.specs.Option.{option_copied}
 use Rattle.wgsl_minify_files.specs.View.{options_view}
+use Rattle.wgsl_minify_files.proofs.Failures.{failed_for}
 use Rattle.wgsl_minify_files.proofs.Runs.{run_stops, run_shows, run_writes, run_fails}
 use Rattle.wgsl_minify_files.proofs.run.run.Goals as goal
 
@@ -34,5 +35,7 @@ returns g c =
     run_fails (options_view c.args.options.now) (g.S.Store.files c.args.store.now)
     (g.S.Store.files c.prepare.new.store) _ _ _ (g.W.Write.contents c.args.output.now)
     (g.W.Write.contents c.args.output.now) _ _ _ (string_bytes c.in-Ok.text) c.in-Some.path.now c.of.result
-    c.in-Ok.ensures.prepared (ap option_copied c.in-Some.is) c.of.ensures.failed c.tell-in-Err-write.ensures
+    c.in-Ok.ensures.prepared (ap option_copied c.in-Some.is) (failed_for
+    ((g.S.Store.files c.prepare.new.store).known ≡ false) c.in-Some.path.now c.in-Err-write.error c.of.result
+    c.in-Err-write.ensures.failed c.of.ensures.memory c.of.ensures.failed) c.tell-in-Err-write.ensures
     c.in-Err-write.ensures.err

@@ -7,7 +7,8 @@ use denote.Text.{Utf8}
 use Rattle.std.proofs.Output.{has_written_append, has_written_of_eq}
 use Rattle.wgsl_writer.proofs.Joins.{before_next}
 use Rattle.wgsl_tree_renamed.specs.NewNames.{pairs}
-use Rattle.wgsl_name_map.proofs.Members.{all_written, member, none_missing, one_more}
+use Rattle.wgsl_name_map.specs.Maps.{member}
+use Rattle.wgsl_name_map.proofs.Members.{all_written, none_missing, one_more}
 use Rattle.wgsl_name_map.proofs.map.NameMapDisplay.fmt.Goals as goal
 use Rattle.wgsl_name_map.proofs.map.NameMapDisplay.fmt.Goals.{in-Some+in_ok-write_str-2+in_ok-write_member, in_default}
 

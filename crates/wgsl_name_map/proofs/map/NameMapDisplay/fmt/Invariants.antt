@@ -3,7 +3,7 @@ use Rattle.std.specs.List.{join_by}
 use Rattle.std.specs.Fmt.{HasWritten, IsPlainFormatter}
 use Rattle.wgsl_writer.proofs.Joins.{before}
 use Rattle.wgsl_tree_renamed.specs.NewNames.{pairs}
-use Rattle.wgsl_name_map.proofs.Members.{member}
+use Rattle.wgsl_name_map.specs.Maps.{member}
 use Rattle.wgsl_name_map.proofs.map.NameMapDisplay.fmt.Given as goal
 use denote.Shadow.{shadow}
 use denote.Text.{Utf8}

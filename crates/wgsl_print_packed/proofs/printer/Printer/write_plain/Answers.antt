@@ -1,5 +1,6 @@
 use Rattle.std.proofs.Common.{ℕ, List, [], ◌++◌, sym, ap, ◌∙◌, subst}
-use Rattle.wgsl_model_packed.specs.Printing.{Prints}
+use Rattle.wgsl_model_packed.specs.Printing.{PrintsBy}
+use Rattle.wgsl_print_packed.specs.Notations.{notation_of}
 use Rattle.wgsl_print_packed.specs.Printing.{joined}
 use Rattle.wgsl_print_packed.proofs.Steps.{plain_run, further}
 use Rattle.std.proofs.Common.{take}
@@ -16,7 +17,7 @@ returns-clause-taken c = λ text was.
       end = next.end;
       whole = further _ _ _ _ _ _ was.whole next.whole (c.in_ok-extend_from_slice.ensures.items
           ∙ ap (λ (z : List ℕ). c.args.self.now.text.items ++ z) c.split_at.ensures.front);
-      prints = subst (λ (z : List ℕ). Prints depth (z ++ outer) c.args.self.now.form.now next.end [])
+      prints = subst (λ (z : List ℕ). PrintsBy (notation_of c.args.self.now.notation) depth (z ++ outer) c.args.self.now.form.now next.end [])
           (sym c.split_at.ensures.back) next.prints;
     }
 
@@ -31,6 +32,6 @@ returns-clause-printed c =
           ∙ ap (λ (z : List ℕ). c.args.self.now.text.items ++ z) c.split_at.ensures.front;
       prints = λ end p. plain_printed c.args.self.now.depth n c.args.self.now.form.now places outer end
           c.plain_length.ensures.bound c.plain_length.ensures.plain
-          (subst (λ (z : List ℕ). Prints c.args.self.now.depth (z ++ outer) c.args.self.now.form.now end [])
+          (subst (λ (z : List ℕ). PrintsBy (notation_of c.args.self.now.notation) c.args.self.now.depth (z ++ outer) c.args.self.now.form.now end [])
           c.split_at.ensures.back p);
     }

@@ -1,4 +1,0 @@
-pub mod Rows
-pub mod Readings
-pub mod Said
-pub mod Names

@@ -1,0 +1,4 @@
+pub mod Command
+pub mod Chosen
+pub mod Options
+pub mod View

@@ -1,0 +1,138 @@
+"""Compares the trees that bindings/web/tree.js reads with the JSON that the library writes, for
+tools/library_tests: of each text of a tree in tests/rows, and of each shader of the repository.
+
+The JSON is taken apart by crates/wgsl_model/nodes alone, without the data of the packed form.
+"""
+import io
+import json
+import re
+import struct
+import subprocess
+import sys
+from pathlib import Path
+
+from row_files import rows_of
+
+TOP = Path(__file__).resolve().parent.parent
+sys.path.append(str(TOP / "tools" / "tables"))
+from node_table import Table, separated, snake  # noqa: E402
+
+# the words of rows by which trees are read, in the order of their numbers, and their kinds
+KINDS = {"unit": "TranslationUnit", "directive": "GlobalDirective",
+         "declaration": "GlobalDeclaration", "statement": "Statement", "expression": "Expression"}
+SHADERS = ["examples", "bindings/rust/tests"]
+# the longest text of a row that is tried: its JSON may nest as deep as it is long
+LONGEST = 4000
+DEEPEST = 50_000
+# whole numbers, of which a float would lose digits, and which are texts in the trees
+NUMBER = re.compile(r'("(?:AbstractInt|I32|U32)":)(-?\d+)')
+
+
+# how tools/tree_test.ts is checked
+TSC = ["tsc", "--noEmit", "--strict", "--target", "es2022", "--module", "nodenext",
+       "--moduleResolution", "nodenext", TOP / "tools" / "tree_test.ts"]
+
+
+def check_types():
+    """What TypeScript says against the types of the trees, nothing if it is right."""
+    return subprocess.run(TSC, capture_output=True, text=True).stdout
+
+
+def texts():
+    """The texts, each with the number of its kind."""
+    rows = [row for file in sorted((TOP / "tests" / "rows").glob("*.txt")) for row in rows_of(file)]
+    shaders = [it for folder in SHADERS for it in sorted((TOP / folder).rglob("*.wgsl"))]
+    words = list(KINDS)
+    found = [(words.index(row.word), row.text) for row in rows if row.word in KINDS]
+    found = [it for it in found if len(it[1]) <= LONGEST]
+    return list(dict.fromkeys([*found, *((0, shader.read_bytes()) for shader in shaders)]))
+
+
+def trees(program):
+    """The texts that are trees, each with the number of its kind, its packed form and its JSON, as
+    tools/library_packed.c writes them."""
+    given = texts()
+    ran = subprocess.run([program], capture_output=True,
+                         input=b"".join(struct.pack("<QQ", number, len(text)) + text
+                                        for number, text in given))
+    if ran.returncode:
+        sys.exit(f"tools/library_packed.c ends with {ran.returncode}, the line of a check")
+    written, found = io.BytesIO(ran.stdout), []
+    for number, text in given:
+        if read_number(written) == 0:
+            form, form_of_json = (written.read(read_number(written)) for _ in range(2))
+            found.append((number, text, form, form_of_json.decode()))
+    return found
+
+
+def read_number(written):
+    return struct.unpack("<Q", written.read(8))[0]
+
+
+def packed(forms):
+    """Packed forms, each after how many bytes it has."""
+    return b"".join(struct.pack("<Q", len(form)) + form for form in forms)
+
+
+class Walk:
+    """Makes the trees of the JSON of one text."""
+
+    def __init__(self, table, text):
+        self.table = table
+        # the UTF-16 offset of each byte offset at which a character starts or ends
+        self.offsets = {0: 0}
+        size = units = 0
+        for character in text.decode():
+            size += len(character.encode())
+            units += len(character.encode("utf-16-le")) // 2
+            self.offsets[size] = units
+
+    def tree(self, held, form, span=None):
+        """What a tree has where the table says what it holds, and the JSON is this."""
+        kind = self.table.by_name.get(held)
+        if held.endswith("?"):
+            return None if form is None else self.tree(held[:-1], form)
+        if held.endswith("*"):
+            return [self.tree(held[:-1], it) for it in form]
+        if not kind or kind.form == "words":
+            return form
+        if kind.is_spanned and span is None:
+            start, end = (self.offsets[it] for it in form["span"])
+            return self.tree(held, form["node"], {"span": {"start": start, "end": end}})
+        make = self.struct if kind.form == "struct" else self.variant
+        return make(kind, form, span or {})
+
+    def struct(self, kind, form, span):
+        fields = {name: self.tree(held, form[name]) for name, held in kind.parts}
+        return {"type": kind.name, **span, **fields}
+
+    def variant(self, kind, form, span):
+        name, inside = (form, None) if isinstance(form, str) else next(iter(form.items()))
+        held = dict(kind.parts)[name]
+        if (of := self.table.by_name.get(held)) and of.form != "words" and not of.is_spanned:
+            return self.tree(held, inside, span)
+        if pair := re.fullmatch(r"\((.*)\)\?", held):
+            names = [snake(it.removesuffix("?")) for it in separated(pair[1])]
+            fields = dict(zip(names, inside or [None] * len(names)))
+        else:
+            fields = {"value": self.tree(held, inside)} if held else {}
+        return {"type": f"{name}{kind.name}", **span, **fields}
+
+
+def compare(cases):
+    """Compares the trees of texts, each given with the number of its kind, its packed form and its
+    JSON. Returns how many there are, or what differs first."""
+    kinds, table = list(KINDS.values()), Table()
+    sys.setrecursionlimit(DEEPEST)
+    lines = [json.dumps([kinds[number], text.decode(), form.hex()])
+             for number, text, form, _ in cases]
+    ran = subprocess.run(["node", TOP / "tools" / "tree_test.mjs"], input="\n".join(lines),
+                         capture_output=True, text=True)
+    if ran.returncode:
+        return ran.stderr
+    for (number, text, _, form), line in zip(cases, ran.stdout.splitlines(), strict=True):
+        form = json.loads(NUMBER.sub(r'\1"\2"', form))
+        wanted = Walk(table, text).tree(kinds[number], form, {})
+        if json.loads(line) != wanted:
+            return f"{text.decode()}\n{line}\n{json.dumps(wanted)}\n"
+    return len(cases)
