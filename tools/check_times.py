@@ -1,4 +1,4 @@
-"""What the checks of the prover take of the processors, by crate, while tools/prove_all runs them."""
+"""What the checks of the prover take of the processors, by crate, while tools/prove_all runs."""
 import json
 import os
 import resource

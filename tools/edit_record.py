@@ -55,7 +55,8 @@ def write_record(folder, lines):
 @cache
 def sum_of_interface(library):
     """A checksum of what a check of a crate above reads of a library."""
-    paths = {it: str(it.relative_to(library)) for it in (library / "lang").rglob("*") if it.is_file()}
+    paths = {it: str(it.relative_to(library)) for it in (library / "lang").rglob("*")
+             if it.is_file()}
     read = [it for it in paths if it.name != "made.json" and not PROOF.search(paths[it])]
     return crates.sum_of([], read, library)
 

@@ -22,32 +22,39 @@ OPEN, CLOSE = Bracket("<"), Bracket(">")
 TOKENS, NODES = token_table.Table(), node_table.Table()
 KEYWORDS = [token.text for token in TOKENS.keywords]
 RESERVED = TOKENS.reserved
-SYMBOLS = """& && -> @ / ! [ ] { } : , = == != > >= >> < <= << % - -- . + ++ | || ( ) ; * ~ _ ^ += -=
-    *= /= %= &= |= ^= >>= <<=""".split()
+SYMBOLS = """& && -> @ / ! [ ] { } : , = == != > >= >> < <= << % - -- . + ++ | || ( ) ; * ~ _ ^
+    += -= *= /= %= &= |= ^= >>= <<=""".split()
 ATTRIBUTES = NODES.attribute_words()
-STRAYS = """# $ ' " ` ? \\ € 0x 1__ 08 0x1.p 4294967296u 99999999999999999999 \0 \ufeff""".split(" ")
-BLANKS = [" "] * 6 + """\n|\n\n    |\t|\r\n|\u3000|\u200e|\u2028|/**/|/* a */|/*/* b */*/|// c\n""".split("|")
+STRAYS = [*"""# $ ' " ` ? \\ € 0x 1__ 08 0x1.p 4294967296u 99999999999999999999""".split(), "\0",
+          "\ufeff"]
+BLANKS = [" "] * 6 + ["\n", "\n\n    ", "\t", "\r\n", "\u3000", "\u200e", "\u2028", "/**/",
+                      "/* a */", "/*/* b */*/", "// c\n"]
 
 # the words of a grammar's terminals, and the rules, whose first way is taken where enough was made;
 # `?` is none or one, `*` none or more, `+` one or more, and `,` one or more with commas between
 WORDS = {name: words.split() for name, words in {
-    "Name": """a b i x y s t main color f32 vec2 vec4f mat4x4 größe π _a __x x7 e5 p1 uf private read
-        storage position perspective""",
-    "Literal": """true false 0 1 42 7u 0i 9223372036854775807 2147483647i 4294967295u 0x7fffFFFF 0X1fu 0x0i
-        0. 1.5 01.5e+1 .5 .025E-07f 5f 00h 1e4 0.5h 0x1.8 0x.c 0x1f.p+02 0x.8p1f 0XAP-3h""",
-    "Product": "* / %", "Sum": "+ - --", "Shifted": "<< >>", "Compared": "< < > <= >= == !=", "Prefix": "- ! ~ * &",
+    "Name": """a b i x y s t main color f32 vec2 vec4f mat4x4 größe π _a __x x7 e5 p1 uf private
+        read storage position perspective""",
+    "Literal": """true false 0 1 42 7u 0i 9223372036854775807 2147483647i 4294967295u 0x7fffFFFF
+        0X1fu 0x0i 0. 1.5 01.5e+1 .5 .025E-07f 5f 00h 1e4 0.5h 0x1.8 0x.c 0x1f.p+02 0x.8p1f
+        0XAP-3h""",
+    "Product": "* / %", "Sum": "+ - --", "Shifted": "<< >>", "Compared": "< < > <= >= == !=",
+    "Prefix": "- ! ~ * &",
     "Assigned": "= += -= *= /= %= &= |= ^= >>= <<=",
 }.items()}
 WORDS |= {name: [word for _, word in NODES.by_name[kind].parts] for name, kind in {
-    "Severity": "DiagnosticSeverity", "Space": "AddressSpace", "Mode": "AccessMode", "Builtin": "BuiltinValue",
-    "Interpolation": "InterpolationType", "Sampling": "InterpolationSampling"}.items()}
+    "Severity": "DiagnosticSeverity", "Space": "AddressSpace", "Mode": "AccessMode",
+    "Builtin": "BuiltinValue", "Interpolation": "InterpolationType",
+    "Sampling": "InterpolationSampling"}.items()}
 WORDS |= {name: [ATTRIBUTES[it] for it, held in NODES.by_name["Attribute"].parts if held == wanted]
           for name, wanted in {"OneArgument": "Expression", "NoArgument": ""}.items()}
 WORDS["Custom"] = sorted({*KEYWORDS, *RESERVED, "a", "x7"} - {*ATTRIBUTES.values()})
-RULES = {line.split()[0]: [way.split() for way in line.split(" = ", 1)[1].split(" / ")] for line in """
+RULES = """
 Module = Directive* Declaration* Declaration*
 Directive = A* enable Name, ; / A* requires Name, ; / A* diagnostic ( Severity , Rule Comma? ) ;
-Declaration = ; / A* Var ; / A* const Typed Value ; / A* override Typed Value? ; / A* alias Name = Type ; / A* const_assert Expression ; / A* struct Name { Member, } / Function / Function
+Declaration = ; / A* Var ; / A* const Typed Value ; / A* override Typed Value? ;
+    / A* alias Name = Type ; / A* const_assert Expression ; / A* struct Name { Member, }
+    / Function / Function
 Function = A* fn Name ( Members? ) Result? Block
 Members = Member,
 Member = A* Name : Type
@@ -60,17 +67,24 @@ Template = ‹ Space Comma? › / ‹ storage , Mode Comma? ›
 Typed = Name / Name : Type
 Value = = Expression
 A = @ Custom / @ Custom Arguments / @ NoArgument / @ OneArgument ( Expression Comma? ) / @ Known
-Known = builtin ( Builtin ) / interpolate ( Interpolation ) / interpolate ( Interpolation , Sampling ) / diagnostic ( Severity , Rule ) / workgroup_size ( Expression ) / workgroup_size ( Expression , Expression , 1 , ) / type ( Name , Type Variant* )
+Known = builtin ( Builtin ) / interpolate ( Interpolation )
+    / interpolate ( Interpolation , Sampling ) / diagnostic ( Severity , Rule )
+    / workgroup_size ( Expression ) / workgroup_size ( Expression , Expression , 1 , )
+    / type ( Name , Type Variant* )
 Variant = | Type
 Block = A* { Statement* }
-Statement = ; / Simple ; / Simple ; / Simple ; / Block / A* if Expression Block ElseIf* Else? / A* switch Expression A* { Clause+ } / A* loop A* { Statement* Continuing? } / A* for ( Init? ; Expression? ; Update? ) Block / A* while Expression Block
+Statement = ; / Simple ; / Simple ; / Simple ; / Block
+    / A* if Expression Block ElseIf* Else? / A* switch Expression A* { Clause+ }
+    / A* loop A* { Statement* Continuing? } / A* for ( Init? ; Expression? ; Update? ) Block
+    / A* while Expression Block
 ElseIf = else if Expression Block
 Else = else Block
 Clause = A* default Colon? Block / A* case Selector, Colon? Block
 Selector = default / Expression
 Continuing = A* continuing A* { Statement* BreakIf? }
 BreakIf = A* break if Expression ;
-Simple = Init / A* break / A* continue / A* discard / A* return Expression? / A* const_assert Expression
+Simple = Init / A* break / A* continue / A* discard / A* return Expression?
+    / A* const_assert Expression
 Init = Update / A* Var / A* let Typed Value / A* const Typed Value
 Update = A* Call / A* _ Value / A* Left Change / Closed Change
 Left = Name Component* / * AnyLeft / & AnyLeft
@@ -96,17 +110,21 @@ Or = || Relation
 BitAnd = & Unary
 BitOr = | Unary
 BitXor = ^ Unary
-""".strip().splitlines()}
+""".strip().replace("\n    ", " ").splitlines()
+RULES = {name: [way.split() for way in ways.split(" / ")]
+         for name, ways in (line.split(" = ", 1) for line in RULES)}
 COUNTS = {"": (1, 1), "?": (0, 1), "*": (0, 3), "+": (1, 3), ",": (1, 3)}
 # what may be around a value, or around a block, any number of times
 AROUND = [[["("], ["-"], ["a", OPEN], ["f", "("], ["a", "["], ["(", "1", "+"], ["(", "b", "<<"]],
-          [["{"], ["if", "a", "{"], ["loop", "{"], ["for", "(", ";", ";", ")", "{"], ["@", "a", "{"]]]
+          [["{"], ["if", "a", "{"], ["loop", "{"], ["for", "(", ";", ";", ")", "{"],
+           ["@", "a", "{"]]]
 CLOSING = {"(": ")", "[": "]", "{": "}"}
 
 WORD = re.compile(r"[^\W\d]\w*")
 NUMBER = re.compile(r"0[xX][\da-fA-F]*\.?[\da-fA-F]*(?:[pP][+-]?\d+[fh]?|[iu])?"
                     r"|(?:\d+\.?\d*|\.\d+)(?:[eE][+-]?\d+)?[fhiu]?")
-TOKEN = re.compile("|".join([WORD.pattern, NUMBER.pattern, *map(re.escape, sorted(SYMBOLS, key=len, reverse=True))]))
+LONGEST_FIRST = sorted(SYMBOLS, key=len, reverse=True)
+TOKEN = re.compile("|".join([WORD.pattern, NUMBER.pattern, *map(re.escape, LONGEST_FIRST)]))
 
 
 class Derivation:
@@ -127,7 +145,8 @@ class Derivation:
         is_over = self.left <= 0 or self.random.random() * self.deepest < self.depth
         self.left -= 1
         self.depth += 1
-        tokens = [token for item in (ways[0] if is_over else self.random.choice(ways)) for token in self.item(item)]
+        way = ways[0] if is_over else self.random.choice(ways)
+        tokens = [token for item in way for token in self.item(item)]
         self.depth -= 1
         return tokens
 
@@ -137,7 +156,8 @@ class Derivation:
         name, mark = (item[:-1], item[-1]) if item[-1] in COUNTS else (item, "")
         least, most = COUNTS[mark]
         # few things have attributes, and large modules many declarations
-        most = {"A*": self.random.choice([0, 0, 0, 3]), "Declaration*": 3 + self.left // 20}.get(item, most)
+        own = {"A*": self.random.choice([0, 0, 0, 3]), "Declaration*": 3 + self.left // 20}
+        most = own.get(item, most)
         count = self.random.randint(least, most) if self.left > 0 else least
         parts = [self.symbol(name) for _ in range(count)]
         if mark == "," and self.random.random() < 0.8:
@@ -148,7 +168,8 @@ class Derivation:
         """A module with one thing in another many times."""
         around = self.random.randrange(2)
         parts = self.random.sample(AROUND[around], self.random.choice([1, 1, 2]))
-        fronts = [token for _ in range(self.random.randint(20, 150)) for token in self.random.choice(parts)]
+        count = self.random.randint(20, 150)
+        fronts = [token for _ in range(count) for token in self.random.choice(parts)]
         # a `(` that is closed in its front closes nothing after
         opened = [token for token in fronts if token in CLOSING or token is OPEN]
         after = [CLOSE if token is OPEN else CLOSING[token] for token in reversed(opened)]
@@ -186,7 +207,8 @@ def reaches_end(tokens):
 
 def module_tokens(random):
     """A module, with `<=` for each `<` that would begin a template list and is not to."""
-    derivation = Derivation(random, random.choice([5, 20, 30, 50, 100, 200, random.choice([200, 1000])]))
+    sizes = [5, 20, 30, 50, 100, 200, random.choice([200, 1000])]
+    derivation = Derivation(random, random.choice(sizes))
     tokens = derivation.deep() if random.random() < 0.02 else derivation.symbol("Module")
     for place in range(len(tokens) - 1, 0, -1):
         is_operator = tokens[place] == "<" and tokens[place] is not OPEN
@@ -202,9 +224,10 @@ def is_word(token):
 
 def closes_up(left, right):
     """Whether two tokens may be next to each other."""
-    if isinstance(left, Bracket) or isinstance(right, Bracket) or {left, right} & set("()[]{},;@:~"):
+    if any(isinstance(it, Bracket) or it in set("()[]{},;@:~") for it in (left, right)):
         return True
-    return is_word(left) != is_word(right) and not (right == "." and NUMBER.match(left) and left[-1] not in "iu")
+    is_longer = right == "." and NUMBER.match(left) and left[-1] not in "iu"
+    return is_word(left) != is_word(right) and not is_longer
 
 
 def laid_out(random, tokens):
@@ -236,8 +259,9 @@ def changed(random, pieces, piece):
         at, to = random.randrange(len(pieces) + 1), random.randrange(len(pieces) + 1)
         end = min(len(pieces), at + random.choice([1, 1, 2, 8]))
         pieces = random.choice([
-            pieces[:at] + pieces[end:], pieces[:end] + pieces[at:], pieces[:at] + [piece()] + pieces[end:],
-            pieces[:at] + [piece()] + pieces[at:], pieces[:to] + pieces[at:end] + pieces[to:], pieces[:at]])
+            pieces[:at] + pieces[end:], pieces[:end] + pieces[at:],
+            pieces[:at] + [piece()] + pieces[end:], pieces[:at] + [piece()] + pieces[at:],
+            pieces[:to] + pieces[at:end] + pieces[to:], pieces[:at]])
     return pieces
 
 
@@ -264,7 +288,8 @@ def any_tokens(random):
 
 
 def any_bytes(random):
-    pool = random.choice([range(256), range(128), b"<>(){}[]*/-=;,.@ab0 \n", "aü€💌;".encode() + b"\xc3\xed\xa0"])
+    pool = random.choice([range(256), range(128), b"<>(){}[]*/-=;,.@ab0 \n",
+                          "aü€💌;".encode() + b"\xc3\xed\xa0"])
     return bytes(random.choice(pool) for _ in range(random.randint(0, 200)))
 
 

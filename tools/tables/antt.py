@@ -39,12 +39,19 @@ def items(text):
 
 
 def source(path):
-    """The text of a file, after those of the files written by tools from which it passes names on."""
+    """The text of a file, after those of the files by tools from which it passes names on."""
     text = path.read_text()
     passed = re.findall(r"^pub use Rattle\.([\w.]+Nodes)\.\{", text, re.M)
     files = [Path("crates", *module.split(".")).with_suffix(".antt")
              for module in dict.fromkeys(passed)]
     return "".join([*map(source, files), text])
+
+
+def constructors(path, name):
+    """The names that a `data` declares, in order."""
+    block = re.search(rf"^pub data {name} : .*\n((?: .*\n)+)", path.read_text(), re.M)[1]
+    lines = [line for line in block.splitlines() if not line.lstrip().startswith("--")]
+    return [name for line in lines for name in line.split(" : ")[0].split()]
 
 
 def last(name):

@@ -1,22 +1,24 @@
-#!/usr/bin/env python3
 """Writes the enum of attributes with its print, what makes an attribute of its name and its
 arguments, and its packed form.
 
-Run it at the top of the repository, and `rt fmt` in the crates that it writes after it:
-
-    tools/tables/attribute_code.py
-
-It reads crates/wgsl_model/nodes, in which the example of a variant begins with the name of the
-attribute. What prints an attribute with a struct of its own is in the file of the struct, what
-makes one of other arguments than one expression is in wgsl_read_attribute/src/checks.rt, and what
-packs one with a struct is in wgsl_tree_packed/src/attribute.rt.
+The example of a variant begins with the name of the attribute. What prints an attribute with a
+struct of its own is in the file of the struct, what makes one of other arguments than one
+expression is in wgsl_read_attribute/src/checks.rt, and what packs one with a struct is in
+wgsl_tree_packed/src/attribute.rt. By hand, each attribute would be in these three files too.
 """
 import re
 from pathlib import Path
 
+import inputs
 from node_table import TABLE, Table, snake, source
 from tree_nodes import places, use_lines
 from tree_words import stem
+
+READS = (inputs.NODES, inputs.SOURCES, "crates/wgsl_read_attribute/src/checks.rt",
+         "crates/wgsl_tree_packed/src/attribute.rt")
+WRITES = ("crates/wgsl_tree_attribute/src/attribute.rt",
+          "crates/wgsl_read_attribute/src/attribute_nodes.rt",
+          "crates/wgsl_tree_packed/src/attribute_nodes.rt")
 
 ENUM = Path("crates/wgsl_tree_attribute/src/attribute.rt")
 CHECKS = Path("crates/wgsl_read_attribute/src/checks.rt")
@@ -186,7 +188,3 @@ def main():
     ENUM.write_text(attributes.enum())
     MADE.write_text(attributes.making())
     PACKED.write_text(attributes.packing())
-
-
-if __name__ == "__main__":
-    main()

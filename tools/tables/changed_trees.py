@@ -1,21 +1,23 @@
-#!/usr/bin/env python3
 """Writes that a changed statement prints as before, and that changed twice it is changed once.
 
-Run it at the top of the repository: tools/tables/changed_trees.py
-
-It reads the functions of wgsl_model that change and print statements, and in Trees/Changed.antt of
-wgsl_theory_reread what is known of the parts. A lemma has the clauses of the function that it is
-about, with what is known, or a lemma, in the place of each part.
+A lemma has the clauses of the function of wgsl_model that it is about, with what is known of a part
+(Trees/Changed.antt of wgsl_theory_reread), or a lemma, in its place. By hand, each statement would
+be in one more file.
 """
 from pathlib import Path
 
 import antt
+import inputs
 from antt import enclosed
 from printed_trees import Law, Printed, Written, fields, follows, module, mutual, variables
 
+READS = (inputs.PRINTED, "crates/wgsl_theory_reread/proofs/Trees/Changed.antt")
+WRITES = ("crates/wgsl_theory_reread/proofs/Trees/ChangedNodes.antt",)
+
 FOLDER = Path("crates/wgsl_theory_reread/proofs/Trees")
 HEAD = """\
--- Written by tools/tables/changed_trees.py from wgsl_model: a statement after a change. Its printed text
+-- Written by tools/tables/changed_trees.py from wgsl_model: a statement after a change. Its \
+printed text
 -- is the same, and changed twice it is changed once, if that is so of the parts.
 """
 CHANGED = "Rattle.wgsl_theory_reread.proofs.Trees.Changed"
@@ -132,7 +134,3 @@ def main():
                    mutual(map(lemmas.twice, lemmas.printed.changes)))
     body = f"{kept}\n\n{twice}\n".replace("where\n\n", "where\n")
     (FOLDER / "ChangedNodes.antt").write_text(HEAD + lemmas.names.file(body))
-
-
-if __name__ == "__main__":
-    main()

@@ -1,10 +1,5 @@
-#!/usr/bin/env python3
 """Writes the functions of wgsl_tree_names that collect the names of a node, from its end to its
 start, each from what the definitions say of it, and the invariants of their loops.
-
-Run it at the top of the repository, and `rt fmt` in crates/wgsl_tree_names after it:
-
-    tools/tables/collected_names.py
 
 It reads crates/wgsl_model/nodes, the views of the crates, and Names of wgsl_model_names. The prover
 checks what it writes; the proof of a kind cites its lemma `.._before` of proofs/Blocks, if it has
@@ -13,12 +8,18 @@ one: where a scope is more or less than a block. The names of expressions are co
 import re
 from pathlib import Path
 
+import inputs
 from cycle_parts import Cycle, Part, imports
 from name_steps import Said
 from names_defined import PLAIN, clauses_in, uses
 from node_table import TABLE, Table, snake
 from plain_trees import constructor, is_apart, short
 from tree_nodes import ghost_uses, places
+
+READS = (inputs.NODES, inputs.TREES, inputs.NAMES, inputs.SOURCES, inputs.VIEWS,
+         "crates/wgsl_tree_names/proofs/Blocks.antt", "crates/wgsl_tree_names/specs/Found.antt")
+WRITES = ("crates/wgsl_tree_names/src/*_nodes.rt",
+          "crates/wgsl_tree_names/proofs/statement_nodes/+statements/Invariants.antt")
 
 CRATE = Path("crates/wgsl_tree_names")
 HERE = "Rattle.wgsl_tree_names"
@@ -295,7 +296,3 @@ def main():
             folder = CRATE / "proofs/statement_nodes/+statements"
             folder.mkdir(parents=True, exist_ok=True)
             (folder / "Invariants.antt").write_text(collects.invariants())
-
-
-if __name__ == "__main__":
-    main()

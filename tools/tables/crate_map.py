@@ -1,9 +1,4 @@
-#!/usr/bin/env python3
 """Draws the crates by layer in docs/MAP.md, from crates.txt.
-
-Run it at the top of the repository:
-
-    tools/tables/crate_map.py
 
 In crates.txt the comment above a crate's line is its description, and `## NAME` begins a layer. A
 crate comes after all that it uses, so in the picture, which has the last line first, it is above
@@ -11,6 +6,9 @@ these. The status is 1 if a crate has no description or comes before one that it
 """
 import sys
 from pathlib import Path
+
+READS = ("crates.txt",)
+WRITES = ("docs/MAP.md",)
 
 CRATES = Path("crates.txt")
 DOCUMENT = Path("docs/MAP.md")
@@ -64,7 +62,3 @@ def main():
     text = DOCUMENT.read_text()
     before, after = text[: text.index(BEGIN)], text[text.index(END):]
     DOCUMENT.write_text(f"{before}{BEGIN}\n\n{picture(found)}\n\n{after}")
-
-
-if __name__ == "__main__":
-    main()

@@ -1,6 +1,8 @@
 """Copies of the kinds that contain each other, for tools/tables/tree_copies.py: of lists and of
 parts that may be left out, and the proofs that a copy is seen as its node is."""
+import goals
 from cycle_parts import LIBRARY, imports
+from goals import c, proof
 from node_table import TABLE, snake
 from tree_terms import bracketed
 
@@ -8,6 +10,11 @@ from tree_terms import bracketed
 ROOTS = {"statement": "Statement"}
 WRITTEN = f"-- Written by tools/tables/tree_copies.py from {TABLE}."
 COMMON = "Rattle.std.proofs.Common"
+
+
+def clone_of(kind):
+    """The function that copies a kind."""
+    return goals.method(kind.name, "CloneWith", "clone_with")
 
 
 def own_functions(cycle):
@@ -44,43 +51,40 @@ class Answers:
 
     def copied(self, part, call):
         """That the copy of a part is seen as the part is, from what its call ensures."""
-        ensured, place = f"c.in_ok-{call}.ensures", f"original.{part.name}"
+        copied, place = c.ok(call).ensures("copy"), f"original.{part.name}"
         seen = self.cycle.seen(part.held, place)
         if part.held == "Attribute*" or self.cycle.is_own(part):
             more = ""
             if part.is_list and self.cycle.is_own(part):
-                more = f" ∙ ap (λ xs. {self.cycle.seen(part.held, 'xs')}) c.deref.ensures.value"
-            return f"let {part.name} = {ensured}{more} in"
+                items = c.of("deref").ensures("value")
+                more = f" ∙ ap (λ xs. {self.cycle.seen(part.held, 'xs')}) {items}"
+            return f"let {part.name} = {c.ok(call).ensures()}{more} in"
         if self.cycle.has(part):
-            return f"let {part.name} = {ensured}.copy in"
+            return f"let {part.name} = {copied} in"
         if part.held == "Expression?":
-            return f"let {part.name} = maybe_expression_copied {place} _ {ensured}.copy in"
+            return f"let {part.name} = maybe_expression_copied {place} _ {copied} in"
         if part.held == "Expression":
-            copy = f"c.in_ok-{call}.field-0"
+            copy = c.ok(call).of("field-0")
             return (f"let {part.name} : {self.cycle.seen(part.held, copy)} ≡ {seen}"
                     f" = search rules in")
         view = self.cycle.view(part.item)
         kind = "items" if part.is_list else "option"
         place += ".items" * part.is_list
-        return f"let {part.name} = {kind}_copied {view} {place} _ {ensured}.copy in"
+        return f"let {part.name} = {kind}_copied {view} {place} _ {copied} in"
 
     def struct(self, kind):
         """That the copy of a struct is seen as it is."""
-        parts, counts, lets, values = self.cycle.parts(kind), {}, "", {}
-        for part in parts:
-            base = self.call(part)
-            counts[base] = counts.get(base, 0) + 1
-            call = base if counts[base] == 1 else f"{base}-{counts[base]}"
-            lets += f"    {self.copied(part, call)}\n"
-            values[part.name] = self.cycle.as_own(part.held, f"{part.name} i")
-        goal, name = f"{kind.name}CloneWith::clone_with-returns", snake(kind.name)
+        parts, name = self.cycle.parts(kind), snake(kind.name)
+        calls = goals.in_order(map(self.call, parts))
+        lets = "".join(f"    {self.copied(*it)}\n" for it in zip(parts, calls))
+        values = {it.name: self.cycle.as_own(it.held, f"{it.name} i") for it in parts}
         split = any(self.cycle.is_own(part) and part.is_optional for part in parts)
         rolled = f"{name}_roll{' _' * (len(parts) if split else 1)}"
         if "original." in lets:
-            lets = f"    let original = layers.out-{kind.name} c.args.self.now in\n{lets}"
-        return (f"pub {goal} : goal.{goal}\n{goal} t c =\n{lets}"
-                f"    record {{ copy = {rolled} ∙ (λ i. {self.cycle.made(kind, values)})"
-                f" ∙ sym ({name}_out c.args.self.now) }}\n")
+            lets = f"    let original = layers.out-{kind.name} {c.given('self')} in\n{lets}"
+        return proof(goals.returns(clone_of(kind)), f"\n{lets}"
+                     f"    record {{ copy = {rolled} ∙ (λ i. {self.cycle.made(kind, values)})"
+                     f" ∙ sym ({name}_out {c.given('self')}) }}")
 
     def listed(self, part):
         """That a list is copied: one item more, and all."""
@@ -88,42 +92,39 @@ class Answers:
         view = bracketed(seen.strip())
         is_spanned = self.cycle.table.by_name[part.item].is_spanned
         item = self.cycle.view(part.item)
-        items = "c.args.part.now"
-        goal = f"{name}-nodes-preserved"
+        items, made, nodes = c.given("part"), c.ok("clone_with"), c.of("nodes")
+        node, same = c.item("node").of("result"), ""
+        copy, more, last = made.of("field-0"), f"item_more {item} {items}", made.ensures("copy")
         if is_spanned:
-            copy = "c.in_ok-new.field-0"
-            same = f"    let same : {item} {copy} ≡ {item} c.node-item.result = search rules in\n"
-            more = f"node_more {items}"
-        else:
-            copy, same, more = "c.in_ok-clone_with.field-0", "", f"item_more {item} {items}"
-        last = "same" if same else "c.in_ok-clone_with.ensures.copy"
-        yield (f"pub {goal} : goal.{goal}\n{goal} t c =\n{same}"
-               f"    ap {view} c.in_ok-push.ensures.items ∙ {more} c.nodes.copies.items "
-               f"c.nodes.node-index c.node-item.result {copy} (search rules) c.node-item.is "
-               f"c.nodes.invariant {last}\n")
-        goal = f"{name}-returns"
-        yield (f"pub {goal} : goal.{goal}\n{goal} t c = c.nodes.invariant ∙ ap {view} "
-               f"(take_all _ {items} c.nodes-test.false)\n")
+            copy, more, last = c.ok("new").of("field-0"), f"node_more {items}", "same"
+            same = f"    let same : {item} {copy} ≡ {item} {node} = search rules in\n"
+        yield proof(goals.preserved(name, "nodes"), f"\n{same}"
+                    f"    ap {view} {c.ok('push').ensures('items')} ∙ {more} "
+                    f"{nodes.of('copies.items')} {nodes.of('node-index')} {node} {copy} "
+                    f"(search rules) {c.item('node').of('is')} {nodes.of('invariant')} {last}")
+        yield proof(goals.returns(name), f" {nodes.of('invariant')} ∙ ap {view} "
+                    f"(take_all _ {items} {c.ended('nodes')})")
 
     def optional(self, part):
         """That an optional part is copied: where it is absent, and where it is there."""
         name, view = f"clone_{self.cycle.stem(part.held)}", self.cycle.view(part.item)
-        goal = f"{name}-returns-in-None"
-        yield f"pub {goal} : goal.{goal}\n{goal} t c = sym (ap (option_map {view}) c.in-None.is)\n"
+        yield proof(goals.returns(name, goals.arm("None")),
+                    f" sym (ap (option_map {view}) {c.arm('None').of('is')})")
         if not self.cycle.table.by_name[part.item].is_spanned:
-            goal = f"{name}-returns-in_ok-clone_with-in-Some"
-            yield (f"pub {goal} : goal.{goal}\n{goal} t c = ap Some "
-                   "c.in_ok-clone_with-in-Some.ensures.copy ∙ "
-                   f"sym (ap (option_map {view}) c.in-Some.is)\n")
+            call = goals.at("clone_with", goals.arm("Some"))
+            yield proof(goals.returns(name, goals.ok(call)),
+                        f" ap Some {c.ok(call).ensures('copy')} ∙ "
+                        f"sym (ap (option_map {view}) {c.arm('Some').of('is')})")
 
     def blocks(self):
         """That a block as a statement is copied: its plain tree has the parts of the block."""
-        root, name = self.cycle.root, "in_ok-clone_with-in-Compound"
-        goal = f"{root.name}CloneWith::clone_with-returns-{name}"
+        root, call = self.cycle.root, goals.at("clone_with", goals.arm("Compound"))
         if "Compound" in dict(root.parts):
-            yield (f"pub {goal} : goal.{goal}\n{goal} t c = record {{ copy = is_compound _ ∙ "
-                   f"ap block_statement c.{name}.ensures.copy ∙ sym (ap (λ (s : {root.name}). "
-                   f"{snake(root.name)}_view s) c.in-Compound.is ∙ is_compound _) }}\n")
+            yield proof(goals.returns(clone_of(root), goals.ok(call)),
+                        " record { copy = is_compound _ ∙ "
+                        f"ap block_statement {c.ok(call).ensures('copy')} ∙ "
+                        f"sym (ap (λ (s : {root.name}). {snake(root.name)}_view s) "
+                        f"{c.arm('Compound').of('is')} ∙ is_compound _) }}")
 
     def text(self):
         """The file of the proofs."""
@@ -149,7 +150,7 @@ class Answers:
         """The invariants of the loops: what is copied so far."""
         crate, lines = f"Rattle.wgsl_tree_{self.cycle.crate}", []
         for part in filter(lambda it: it.is_list, self.cycle.own_parts()):
-            name = f"invariant-clone_{self.cycle.stem(part.held)}-nodes"
+            name = goals.invariant(f"clone_{self.cycle.stem(part.held)}", "nodes")
             seen = [self.cycle.seen(part.held, it)
                     for it in ("l.copies.items", "(take l.node-index l.part)")]
             lines += ["", f"abbrev pub {name} : goal.{name}", f"{name} l = {' ≡ '.join(seen)}"]

@@ -1,24 +1,23 @@
-#!/usr/bin/env python3
 """Writes what the kinds that contain each other are as plain data, from their fields and variants:
 each is a fold of one layer of each type; and what each view is of one layer and of each variant.
 
-Run it at the top of the repository:
-
-    tools/tables/cycle_views.py
-
-It reads crates/wgsl_model/nodes and the plain trees of wgsl_model. The prover checks the lemmas;
-the views are definitions.
+A fold takes an argument for each kind: by hand, one more kind would change all lists of these.
 """
 from itertools import product
 from pathlib import Path
 from string import ascii_lowercase
 
+import inputs
 from cycle_parts import LIBRARY, Cycle, imports
 from node_specs import cycle as names_of
 from node_table import TABLE, Table, snake
 from plain_trees import OWN, constructor, is_apart
 from tree_nodes import ghost_uses, places
 from tree_terms import bracketed
+
+READS = (inputs.NODES, inputs.TREES, inputs.SOURCES, inputs.VIEWS, "crates/wgsl_span/specs/*.antt")
+WRITES = ("crates/wgsl_tree_statement/specs/View.antt",
+          "crates/wgsl_tree_statement/proofs/Views.antt")
 
 ROOTS = ["Statement"]
 WRITTEN = f"-- Written by tools/tables/cycle_views.py from {TABLE}"
@@ -340,7 +339,3 @@ def main():
         folder = Path(f"crates/wgsl_tree_{cycle.crate}")
         (folder / "specs/View.antt").write_text(Views(cycle).text())
         (folder / "proofs/Views.antt").write_text(Lemmas(cycle).text())
-
-
-if __name__ == "__main__":
-    main()

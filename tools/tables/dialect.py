@@ -1,23 +1,22 @@
-#!/usr/bin/env python3
 """Writes the rules of the languages that are recognised, each in the form in which one token
 decides, as steps over tokens: the language that is parsed, without its checks, and the smaller one
 of `recognize_str`. The rules that are the same in both are written once.
-
-Run it at the top of the repository, and format what it wrote with `rt fmt`:
-
-    tools/tables/dialect.py crates/wgsl_read_dialect
-
-It reads the rules from the definitions. Nothing rests on it: the prover checks every rule.
 """
 import re
-import sys
 import textwrap
 from pathlib import Path
 
+import goals
+import inputs
 import token_table
+from goals import c, proof
 from tables import DIALECTS, Tables, rules
 
-THEORY = Path("crates/wgsl_theory_grammar")
+READS = (inputs.TOKENS, inputs.FACTORED)
+WRITES = ("crates/wgsl_read_dialect/src/[!dlw]*.rt", "crates/wgsl_read_dialect/specs/Symbols.antt",
+          "crates/wgsl_read_dialect/proofs/rules/*/Answers.antt")
+
+CRATE = Path("crates/wgsl_read_dialect")
 
 
 class Steps:
@@ -108,18 +107,23 @@ def capitals(n):
     return n[1].upper()
 
 
-# the last written symbol of the first two parts of the grammar, and the further symbols of all but the units
+# the last written symbol of the first two parts of the grammar, and the further symbols of all but
+# the units
 LAST = {"expressions": "lhs_expression", "statements": "for_update"}
 FURTHER = {
-    "expressions": ["template_", "argument_", "components", "factors", "summands", "sum_rest", "relation_rest", "and_rest",
-                    "or_rest", "bitwise_", "expression_rest", "left_side_in_parentheses", "prefixed_left_side"],
-    "statements": ["selectors", "statement_rest", "loop_", "continuing_", "clause_", "else_rest", "init_part",
-                   "condition_part", "update_part", "braced_part", "ended_part"],
-    "simple": ["returning_part", "local_part", "value_part", "phony_part", "simple_part", "assert_part",
-               "left_side_rest", "name_rest_statement", "parenthesized_statement", "plain_statement"],
+    "expressions": """template_ argument_ components factors summands sum_rest relation_rest
+        and_rest or_rest bitwise_ expression_rest left_side_in_parentheses prefixed_left_side""",
+    "statements": """selectors statement_rest loop_ continuing_ clause_ else_rest init_part
+        condition_part update_part braced_part ended_part""",
+    "simple": """returning_part local_part value_part phony_part simple_part assert_part
+        left_side_rest name_rest_statement parenthesized_statement plain_statement""",
 }
-SAYS = {"expressions": "The rules of names, expressions and templates", "statements": "The rules of statements and their blocks",
-        "units": "The rules of attributes, declarations, directives and units", "simple": "The rules of statements that hold no others"}
+SAYS = {
+    "expressions": "The rules of names, expressions and templates",
+    "statements": "The rules of statements and their blocks",
+    "units": "The rules of attributes, declarations, directives and units",
+    "simple": "The rules of statements that hold no others",
+}
 # the part with the rules of the language that is parsed that are others in the smaller one
 OWN = "parsed"
 OWN_SAYS = "The rules of the language that is parsed where the smaller one has others"
@@ -239,7 +243,8 @@ def in_parts(order, needed):
             if n[1] == LAST.get(names[at]):
                 at += 1
         else:
-            home = [part for part, starts in FURTHER.items() if n[1].startswith(tuple(starts))]
+            home = [part for part, starts in FURTHER.items()
+                    if n[1].startswith(tuple(starts.split()))]
             parts[home[0] if home else "units"].append(n)
     parts["statements"] = [n for n in parts["statements"] if n[1] != "attribute"]
     parts["units"].insert(0, ("of", "attribute"))
@@ -257,13 +262,16 @@ class Writer:
         for n, steps in found.items():
             for classes in self.sets(steps):
                 users.setdefault(tuple(classes), []).append(n)
-        shared = [classes for classes, symbols in users.items() if len(classes) > 2 and len(symbols) > 1]
+        shared = [it for it, symbols in users.items() if len(it) > 2 and len(symbols) > 1]
         self.names = {classes: self.name(classes, users) for classes in shared}
         home = {n: part for part, symbols in reversed(parts.items()) for n in symbols}
-        self.homes = {self.names[classes]: min((home[n] for n in users[classes]), key=list(parts).index) for classes in shared}
+        first = list(parts).index
+        self.homes = {self.names[classes]: min((home[n] for n in users[classes]), key=first)
+                      for classes in shared}
 
     def name(self, classes, users):
-        """The name of a set: by the first symbols before which it is asked for, else by the rule that goes on with it."""
+        """The name of a set: by the first symbols before which it is asked for, else by the rule
+        that goes on with it."""
         for steps in self.found.values():
             for step in self.choices(steps):
                 symbols = self.first_symbols(step[2])
@@ -276,9 +284,11 @@ class Writer:
         does, symbols = name.lower().split("_", 1)
         if does == "continues":
             return f"The tokens with which {MEANT[symbols]} goes on"
-        parts = [rest for rest in MEANT if symbols.endswith(f"_{rest}") and symbols.removesuffix(f"_{rest}") in MEANT]
-        several = [symbols.removesuffix(f"_{rest}") for rest in parts[:1]] + (parts[:1] or [symbols])
-        return f"The tokens that begin {' or '.join(re.sub(', (with|none|after) .*', '', MEANT[it]) for it in several)}"
+        several = next(([symbols.removesuffix(f"_{rest}"), rest] for rest in MEANT
+                        if symbols.endswith(f"_{rest}")
+                        and symbols.removesuffix(f"_{rest}") in MEANT), [symbols])
+        meant = [re.sub(", (with|none|after) .*", "", MEANT[it]) for it in several]
+        return f"The tokens that begin {' or '.join(meant)}"
 
     def first_symbols(self, steps):
         """The symbols at the front of some steps, up to the first that cannot be empty."""
@@ -317,109 +327,138 @@ class Writer:
         return f"{step[0]}({', '.join([self.kinds(step[1])] + list(map(self.steps, step[2:])))})"
 
     def rules(self, part):
-        consts = [f"{documented(f'The steps of {MEANT[n[1]]}')}\npub const {capitals(n)}: &[Step] = {self.steps(self.found[n])};"
+        consts = [f"{documented(f'The steps of {MEANT[n[1]]}')}\n"
+                  f"pub const {capitals(n)}: &[Step] = {self.steps(self.found[n])};"
                   for n in self.parts[part]]
         body = "\n\n".join(consts)
         used = [v for v in ("Choice", "Repeat", "Rule", "Token") if v + "(" in body]
-        lines = [f"//! {SAYS.get(part, OWN_SAYS)}, written by tools/tables/dialect.py.", ""]
-        lines += [f"use crate::{home}::{name};" for name, home in self.homes.items() if home != part and re.search(rf"\b{name}\b", body)]
-        lines += ["use crate::rules::Symbol;", f"use crate::step::Step::{{self, {', '.join(used)}}};", "use wgsl_lex_token::kind::TokenKind;", ""]
+        lines = [f"//! {SAYS.get(part, OWN_SAYS)}, written by tools/tables/dialect.py.", "",
+                 *(f"use crate::{home}::{name};" for name, home in self.homes.items()
+                   if home != part and re.search(rf"\b{name}\b", body)),
+                 "use crate::rules::Symbol;",
+                 f"use crate::step::Step::{{self, {', '.join(used)}}};",
+                 "use wgsl_lex_token::kind::TokenKind;", ""]
         for classes, name in self.names.items():
             if self.homes[name] == part:
                 kinds = ", ".join(f"TokenKind::{c}" for c in classes)
-                lines += [documented(self.meant(name)), f"pub const {name}: &[TokenKind] = &[{kinds}];", ""]
+                lines += [documented(self.meant(name)),
+                          f"pub const {name}: &[TokenKind] = &[{kinds}];", ""]
         return "\n".join(lines + [body, ""])
 
 
 def symbols_text(order):
-    lines = ["/// A symbol: those of the written grammar, and after them those that are a part of a rule.",
-             "#[derive(Clone, Copy)]", "pub enum Symbol {"]
-    return lines + [f"    {camel(n)}," for n in order] + ["}", ""]
+    return ["/// A symbol: those of the written grammar, and after them those that are a part of a "
+            "rule.", "#[derive(Clone, Copy)]", "pub enum Symbol {",
+            *(f"    {camel(n)}," for n in order), "}", ""]
 
 
 def view_text(order):
-    lines = ["-- The symbols of the code as those of the grammar, written by tools/tables/dialect.py."]
-    lines += [f"use Rattle.wgsl_model.specs.Grammar.Symbols.{{{', '.join('Symbol.' + n[1] for n in order if n[0] == 'of')}}}"]
-    lines += [f"use Rattle.wgsl_theory_grammar.specs.Factored.{{FactoredSymbol, FactoredSymbol.of, FactoredSymbol.further, {', '.join('Further.' + n[1] for n in order if n[0] == 'further')}}}"]
-    lines += ["use Rattle.wgsl_read_dialect.specs.declared.rules.Symbol.{Symbol}",
-              "use Rattle.wgsl_read_dialect.specs.declared.rules.Symbol.TheVariants as variant", "",
-              "-- which symbol it is", "abbrev pub symbol_view : Symbol → FactoredSymbol"]
-    lines += [f"symbol_view variant.{camel(n)} = {n[0]} {n[1]}" for n in order]
-    return "\n".join(lines + [""])
+    written, further = ([n[1] for n in order if n[0] == kind] for kind in ("of", "further"))
+    symbols = ", ".join(f"Symbol.{it}" for it in written)
+    factored = ["FactoredSymbol", "FactoredSymbol.of", "FactoredSymbol.further",
+                *(f"Further.{it}" for it in further)]
+    declared = "use Rattle.wgsl_read_dialect.specs.declared.rules.Symbol"
+    return "\n".join([
+        "-- The symbols of the code as those of the grammar, written by tools/tables/dialect.py.",
+        f"use Rattle.wgsl_model.specs.Grammar.Symbols.{{{symbols}}}",
+        f"use Rattle.wgsl_theory_grammar.specs.Factored.{{{', '.join(factored)}}}",
+        f"{declared}.{{Symbol}}", f"{declared}.TheVariants as variant", "",
+        "-- which symbol it is", "abbrev pub symbol_view : Symbol → FactoredSymbol",
+        *(f"symbol_view variant.{camel(n)} = {n[0]} {n[1]}" for n in order), ""])
 
 
 def side_text(name, language, homes):
     """The function that has the steps of each symbol in a language, by the part with its rule."""
-    lines = [f"/// Returns the steps of a symbol in {language}.", f"fn {name}_side(symbol: Symbol) -> &'static [Step]",
-             f"    ensures {{ steps_view result.now ≡ rule_steps {name} (symbol_view symbol) }}", "{", "    match symbol {"]
-    lines += [f"        Symbol::{camel(n)} => {part}::{capitals(n)}," for n, part in homes.items()]
-    return lines + ["    }", "}", ""]
+    return [f"/// Returns the steps of a symbol in {language}.",
+            f"fn {name}_side(symbol: Symbol) -> &'static [Step]",
+            f"    ensures {{ steps_view result.now ≡ rule_steps {name} (symbol_view symbol) }}",
+            "{", "    match symbol {",
+            *(f"        Symbol::{camel(n)} => {part}::{capitals(n)}," for n, part in homes.items()),
+            "    }", "}", ""]
+
+
+RULES_HEAD = """\
+//! The symbols of the grammar in which one token decides, and the steps of each,
+//! written by tools/tables/dialect.py.
+
+ghost use Rattle.std.specs.Prelude.{◌≡◌};
+ghost use Rattle.wgsl_model.specs.Grammar.Symbols.{Dialect.parsed, Dialect.recognized};
+ghost use Rattle.wgsl_read_dialect.specs.Dialects.{dialect_view};
+ghost use Rattle.wgsl_read_dialect.specs.Steps.{rule_steps};
+ghost use Rattle.wgsl_read_dialect.specs.Symbols.{symbol_view};
+ghost use Rattle.wgsl_read_dialect.specs.View.{steps_view};
+
+use crate::dialect::Dialect;"""
+RIGHT_SIDE = """\
+/// Returns the steps of a symbol in a dialect.
+pub fn right_side(dialect: Dialect, symbol: Symbol) -> &'static [Step]
+    ensures { steps_view result.now ≡ rule_steps (dialect_view dialect) (symbol_view symbol) }
+{
+    match dialect {
+        Dialect::Parsed => parsed_side(symbol),
+        Dialect::Recognized => recognized_side(symbol),
+    }
+}
+"""
 
 
 def rules_text(order, homes, own):
-    lines = ["//! The symbols of the grammar in which one token decides, and the steps of each,",
-             "//! written by tools/tables/dialect.py.", "",
-             "ghost use Rattle.std.specs.Prelude.{◌≡◌};",
-             "ghost use Rattle.wgsl_model.specs.Grammar.Symbols.{Dialect.parsed, Dialect.recognized};",
-             "ghost use Rattle.wgsl_read_dialect.specs.Dialects.{dialect_view};",
-             "ghost use Rattle.wgsl_read_dialect.specs.Steps.{rule_steps};",
-             "ghost use Rattle.wgsl_read_dialect.specs.Symbols.{symbol_view};",
-             "ghost use Rattle.wgsl_read_dialect.specs.View.{steps_view};", "",
-             "use crate::dialect::Dialect;"]
-    lines += [f"use crate::{part};" for part in [*SAYS, OWN]]
-    lines += ["use crate::step::Step;", "", *symbols_text(order),
-              "/// Returns the steps of a symbol in a dialect.", "pub fn right_side(dialect: Dialect, symbol: Symbol) -> &'static [Step]",
-              "    ensures { steps_view result.now ≡ rule_steps (dialect_view dialect) (symbol_view symbol) }", "{",
-              "    match dialect {", "        Dialect::Parsed => parsed_side(symbol),",
-              "        Dialect::Recognized => recognized_side(symbol),", "    }", "}", ""]
-    lines += side_text("parsed", "the language that is parsed", {n: OWN if n in own else part for n, part in homes.items()})
-    return "\n".join(lines + side_text("recognized", "the smaller language", homes))
+    """The file of the symbols, with the steps of each."""
+    parsed = {n: OWN if n in own else part for n, part in homes.items()}
+    return "\n".join([
+        RULES_HEAD, *(f"use crate::{part};" for part in [*SAYS, OWN]), "use crate::step::Step;", "",
+        *symbols_text(order), RIGHT_SIDE,
+        *side_text("parsed", "the language that is parsed", parsed),
+        *side_text("recognized", "the smaller language", homes)])
 
 
 def answers(name, found):
-    lines = ["-- Each rule has the steps of its symbol, written by tools/tables/dialect.py.", "use Rattle.wgsl_read_dialect.specs.Steps.{rule_steps}",
-             "use Rattle.wgsl_read_dialect.proofs.Views.{choice_is, repeat_is}", f"use Rattle.wgsl_read_dialect.proofs.rules.{name}_side.Goals as goal"]
+    """The proofs that each rule has the steps of its symbol."""
+    texts = ["-- Each rule has the steps of its symbol, written by tools/tables/dialect.py.",
+             "use Rattle.wgsl_read_dialect.specs.Steps.{rule_steps}",
+             "use Rattle.wgsl_read_dialect.proofs.Views.{choice_is, repeat_is}",
+             f"use Rattle.wgsl_read_dialect.proofs.rules.{name}_side.Goals as goal", ""]
     for n, steps in found.items():
-        goal = f"returns-in-{camel(n)}"
-        kinds = set(kinds_in(steps))
-        laws = [f"c.in-{camel(n)}.is"] + [law for kind, law in (("Choice", "choice_is"), ("Repeat", "repeat_is")) if kind in kinds]
+        laws = [str(c.arm(camel(n)).of("is"))]
         choices = [step for step in steps if step[0] == "Choice"]
-        tactic = "simp"
+        tactic = "simp" if len(choices) < 2 else "rw"
         if len(choices) > 1:
-            tactic, laws = "rw", laws[:1] + ["choice_is"] * len(choices)
-        lines += ["", f"pub {goal} : goal.{goal}", "unfolding rule_steps", f"{goal} c = {tactic} {laws[0] if len(laws) == 1 else '(' + ', '.join(laws) + ')'}"]
-    return "\n".join(lines + [""])
+            laws += ["choice_is"] * len(choices)
+        else:
+            kinds = set(kinds_in(steps))
+            laws += [f"{it.lower()}_is" for it in ("Choice", "Repeat") if it in kinds]
+        by = laws[0] if len(laws) == 1 else f"({', '.join(laws)})"
+        texts.append(proof(goals.returns("", goals.arm(camel(n))), f" {tactic} {by}", "c",
+                           "unfolding rule_steps\n"))
+    return "\n".join(texts)
 
 
 def steps_in(language, steps):
     """The steps of every symbol in a language."""
-    every = {n: steps.of(g) for n, g in rules(THEORY, language).items()}
+    every = {n: steps.of(g) for n, g in rules(language).items()}
     every[OPENED] = opened(every[OPENED], every)
     return every
 
 
-def main(crate):
+def main():
     classes = token_table.Table().classes
-    tables = Tables(rules(THEORY, "parsed"))
+    tables = Tables(rules("parsed"))
     steps = Steps(tables, {c: i for i, c in enumerate(classes)})
     found = {language: steps_in(language, steps) for language in DIALECTS}
     needed = set.union(*(reached(every, ("of", "unit")) for every in found.values()))
-    found = {language: {n: s for n, s in every.items() if n in needed} for language, every in found.items()}
+    found = {language: {n: it for n, it in every.items() if n in needed}
+             for language, every in found.items()}
     parsed, smaller = found["parsed"], found["recognized"]
     own = {n: s for n, s in parsed.items() if s != smaller[n]}
     parts = in_parts(smaller, needed)
     writers = {part: Writer(smaller, parts, tables.empty) for part in parts}
     writers[OWN] = Writer(own, {OWN: list(own)}, tables.empty)
     for part, writer in writers.items():
-        (crate / f"src/{part}.rt").write_text(writer.rules(part))
+        (CRATE / f"src/{part}.rt").write_text(writer.rules(part))
     homes = {n: part for part, symbols in parts.items() for n in symbols}
-    (crate / "src/rules.rt").write_text(rules_text(smaller, homes, own))
-    (crate / "specs/Symbols.antt").write_text(view_text(smaller))
+    (CRATE / "src/rules.rt").write_text(rules_text(smaller, homes, own))
+    (CRATE / "specs/Symbols.antt").write_text(view_text(smaller))
     for language, every in found.items():
-        proofs = crate / f"proofs/rules/{language}_side"
+        proofs = CRATE / f"proofs/rules/{language}_side"
         proofs.mkdir(parents=True, exist_ok=True)
         (proofs / "Answers.antt").write_text(answers(language, {n: every[n] for n in homes}))
-
-
-if __name__ == "__main__":
-    main(Path(sys.argv[1]))

@@ -1,16 +1,18 @@
-#!/usr/bin/env python3
 """Writes what the further symbols mean, from the rules of both forms of the grammar.
 
-Run it at the top of the repository: tools/tables/meanings.py
-
 What is after the attributes in a factored rule means what is after them in the written rule. What
-is made of further symbols means the same of what these mean. The others are in Meaning.antt.
+is made of further symbols means the same of what these mean. The others are in Meaning.antt. By
+hand, each statement would be in three definitions more.
 """
 import re
 from pathlib import Path
 
 import antt
+import inputs
 from antt import enclosed
+
+READS = (inputs.GRAMMAR, inputs.FACTORED, "crates/wgsl_theory_grammar/specs/Meaning.antt")
+WRITES = ("crates/wgsl_theory_grammar/specs/Meaning[CR]*.antt",)
 
 THEORY = Path("crates/wgsl_theory_grammar/specs")
 WRITTEN = Path("crates/wgsl_model/specs/Grammar/Written.antt")
@@ -127,7 +129,3 @@ def main():
     definitions = [line for symbol in found.texts for line in (found.definition(symbol), "")]
     write("MeaningRules", "what the further symbols mean", [*definitions, *found.meaning()],
           [FACTORED, WRITTEN, BY_HAND])
-
-
-if __name__ == "__main__":
-    main()

@@ -1,5 +1,5 @@
-"""What Names of wgsl_model_names says of each kind of node, as steps: the parts with names, the uses,
-the declarations and the scopes, each with its place in the node."""
+"""What Names of wgsl_model_names says of each kind of node, as steps: the parts with names, the
+uses, the declarations and the scopes, each with its place in the node."""
 import re
 from dataclasses import dataclass
 
@@ -13,8 +13,8 @@ VARIANTS = {"Statement": "unattributed_names", "GlobalDeclaration": "content_nam
 
 @dataclass(frozen=True)
 class Step:
-    """A step: to "put" the names of a part, as uses or as "unknown" ones, to "use" a name, to declare
-    the names of a list, "all", or the "start" or the "end" of a scope."""
+    """A step: to "put" the names of a part, as uses or as "unknown" ones, to "use" a name, to
+    declare the names of a list, "all", or the "start" or the "end" of a scope."""
 
     what: str
     place: str = ""

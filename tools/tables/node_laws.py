@@ -1,22 +1,22 @@
-#!/usr/bin/env python3
 """Writes the laws of wgsl_laws with a clause for each node: where two trees are equal, and what the
 attributes of a node are in its plain tree.
 
-Run it at the top of the repository, and `rt fmt` in crates/wgsl_laws after it:
-
-    tools/tables/node_laws.py
-
-It reads crates/wgsl_model/nodes, and finds by their types the definitions of a node and the lemmas
-that say of it what a law says of all.
+It finds by their types the definitions of a node and the lemmas that say of it what a law says of
+all. By hand, each statement would be in three more files.
 """
 import re
 import textwrap
 from dataclasses import dataclass
 from pathlib import Path
 
+import inputs
 from node_lists import Nodes
 from node_specs import CRATES, Specs, cycle, head_of, imports
 from node_table import TABLE, Table, snake
+
+READS = (inputs.NODES, inputs.MODEL, inputs.SOURCES, "crates/wgsl_tree_*/specs/*.antt",
+         "crates/wgsl_tree_*/proofs/*.antt", "crates/wgsl_tree_node/src/bare.rt")
+WRITES = ("crates/wgsl_laws/src/*_nodes.rt", "crates/wgsl_laws/proofs/LawNodes.antt")
 
 CRATE = Path("crates/wgsl_laws")
 WRITTEN = f"Written by tools/tables/node_laws.py from {TABLE}"
@@ -137,7 +137,8 @@ def laws(nodes, specs):
     for kind in nodes.table.of_form("struct"):
         if nodes.homes[kind.name][0] == "attribute":
             name = specs.equal(kind.name).removeprefix("equal_")
-            doc = f"Two values of `{kind.name}` are equal exactly if they are the same ignoring spans."
+            doc = (f"Two values of `{kind.name}` are equal exactly if they are the same ignoring "
+                   "spans.")
             yield Law("attribute_equality", name, (kind.name,), "", doc)
 
 
@@ -258,7 +259,3 @@ def main():
         text = module(specs, name, [law for law in made if law.module == name])
         (CRATE / f"src/{name}_nodes.rt").write_text(text)
     (CRATE / f"proofs/{RULES}.antt").write_text(rulesets(specs, made))
-
-
-if __name__ == "__main__":
-    main()

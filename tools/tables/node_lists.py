@@ -1,20 +1,19 @@
-#!/usr/bin/env python3
 """Writes what the nodes of wgsl_tree_node say of themselves, each from its fields: its name, its
 `ident`, and its list of attributes, its `attributes`. An enum has those of what it holds.
 
-Run it at the top of the repository, and `rt fmt` in crates/wgsl_tree_node after it:
-
-    tools/tables/node_lists.py
-
-It reads crates/wgsl_model/nodes. Written by hand are the nodes without attributes, and that a node
-has no name although it holds one (bare.rt).
+Written by hand are the nodes without attributes, and that a node has no name although it holds one
+(bare.rt).
 """
 import re
 import textwrap
 from pathlib import Path
 
+import inputs
 from node_specs import CRATES, cycle, head_of, homes, imports, place
 from node_table import TABLE, Table, snake
+
+READS = (inputs.NODES, inputs.SOURCES, "crates/wgsl_tree_node/src/bare.rt")
+WRITES = ("crates/wgsl_tree_node/src/*_nodes.rt", "crates/wgsl_tree_node/specs/*Nodes.antt")
 
 CRATE = Path("crates/wgsl_tree_node")
 SPECS = f"Rattle.{CRATE.name}.specs"
@@ -230,7 +229,3 @@ def main():
             path = CRATE / f"specs/{crate.capitalize()}Nodes.antt"
             path.write_text(list_definitions(nodes, crate))
     (CRATE / "specs/NamedNodes.antt").write_text(name_definition(nodes))
-
-
-if __name__ == "__main__":
-    main()

@@ -5,7 +5,7 @@ import textwrap
 from collections import defaultdict
 from pathlib import Path
 
-from node_table import TREES, declared
+from node_table import TREES, declared, sources
 
 CRATES = {crate: f"wgsl_tree_{crate}" for crate in TREES}
 # what a file of definitions or lemmas states, with its type; and the types that it declares
@@ -21,8 +21,8 @@ WHOLE_WORDS = {"break_long_words": False, "break_on_hyphens": False}
 def homes():
     """The crate and the file in which the library declares each struct and enum."""
     return {name: (crate, file.stem)
-            for crate, folder in CRATES.items()
-            for file in sorted(Path(f"crates/{folder}/src").glob("*.rt"))
+            for crate in CRATES
+            for file in sources(crate)
             for _, name in declared(file.read_text())}
 
 

@@ -26,8 +26,8 @@ class Kind:
 
 
 class Table:
-    """The kinds in the order of the table, the section of each, what it says of fields and variants,
-    and the examples of the variants of each enum."""
+    """The kinds in the order of the table, the section of each, what it says of fields and
+    variants, and the examples of the variants of each enum."""
 
     def __init__(self):
         self.sections = sections()
@@ -122,9 +122,15 @@ def snake(name):
     return re.sub(r"(?<!^)(?=[A-Z])", "_", name).lower()
 
 
-def source(crate):
+def sources(crate):
+    """The sources of a crate that declare types: what tools write for nodes declares none."""
     files = sorted(Path(f"crates/wgsl_tree_{crate}/src").glob("*.rt"))
-    return "".join(file.read_text() for file in files)
+    return [file for file in files if crate == WORDS or not file.stem.endswith("_nodes")]
+
+
+def source(crate):
+    """The texts of these."""
+    return "".join(file.read_text() for file in sources(crate))
 
 
 def expanded(text, aliases):

@@ -1,18 +1,19 @@
-#!/usr/bin/env python3
 """Writes what follows from the fields of the nodes alone: the lists of docs/TREE.md, the types and
 the lists of nodes of the Rust crate, for its tests a text with the example of each variant and what
 prints are read as, and the variants that tools/library_kinds.c looks for.
 
-Run it at the top of the repository:
-
-    tools/tables/nodes.py
-
-It reads crates/wgsl_model/nodes, and ends with status 1 if a type of the library differs from that.
+It fails if a type of the library differs.
 """
 import textwrap
 from pathlib import Path
 
+import inputs
 from node_table import TABLE, Table, check, snake
+
+READS = (inputs.NODES, inputs.SOURCES)
+WRITES = ("docs/TREE.md", "bindings/rust/src/words.rs", "bindings/rust/src/*/node_*.rs",
+          "bindings/rust/src/syntax/*/node_*.rs", "bindings/rust/tests/every_kind.wgsl",
+          "bindings/rust/tests/node_prints/mod.rs", "tools/library_kinds.c")
 
 DOCUMENT = Path("docs/TREE.md")
 RUST = Path("bindings/rust/src")
@@ -64,7 +65,7 @@ def field_doc(table, kind, name, held):
 
 
 def variant_doc(table, kind, name, held):
-    """What a variant is: as the table says it of the variant or of what it holds, or by its name."""
+    """What a variant is: as the table says it of it or of what it holds, or by its name."""
     inside = table.by_name.get(held)
     if table.doc(kind, name):
         return table.doc(kind, name)
@@ -273,7 +274,3 @@ def main():
     write_packed(table)
     write_text(table)
     write_words(table)
-
-
-if __name__ == "__main__":
-    main()

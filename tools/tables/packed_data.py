@@ -1,20 +1,18 @@
-#!/usr/bin/env python3
 """Writes the packed form as data, for readers and writers in any language: the rules, and the sorts
 of what fills their places.
 
-Run it at the top of the repository:
-
-    tools/tables/packed_data.py
-
-It reads the rules and the kinds of crates/wgsl_model_packed, and crates/wgsl_model/nodes, and
-writes include/wgsl_packed.json, and the same as a module of JavaScript.
+The same is a module of JavaScript.
 """
 import json
 from pathlib import Path
 
+import inputs
 import packed_rules
 from node_table import Table
 from packed_kinds import Sorts
+
+READS = (inputs.NODES, inputs.RULES)
+WRITES = ("include/wgsl_packed.json", "bindings/web/packed.js")
 
 DATA = Path("include/wgsl_packed.json")
 MODULE = Path("bindings/web/packed.js")
@@ -45,7 +43,3 @@ def main():
     DATA.write_text(text)
     MODULE.write_text(f"// The packed form as data, which tools/tables/packed_data.py writes.\n"
                       f"export default {text.rstrip()};\n")
-
-
-if __name__ == "__main__":
-    main()

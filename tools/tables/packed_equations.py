@@ -8,8 +8,8 @@ from antt import Module, last, term
 from node_groups import in_cycle
 from node_specs import only
 from plain_trees import CONSTRUCTED, OWN, RENAMED, constructor, is_apart, short
-from statement_cycle import ROOT
 
+ROOT = "Statement"
 SPECS = Path("crates/wgsl_model_packed/specs/Statements.antt")
 # the fields whose names are others in plain trees
 FIELDS = {plain: name for name, plain in RENAMED.items()}

@@ -1,20 +1,16 @@
-#!/usr/bin/env python3
-"""Writes the names and the tables of include/wgsl_packed.h.
-
-Run it at the top of the repository:
-
-    tools/tables/packed_header.py
-
-It reads the rules and the kinds of crates/wgsl_model_packed, and crates/wgsl_model/nodes.
-"""
+"""Writes the names and the tables of include/wgsl_packed.h."""
 import textwrap
 from pathlib import Path
 
+import inputs
 import packed_rules
 from node_table import Table
 from nodes import fill
 from packed_kinds import Sorts
 from packed_places import code
+
+READS = (inputs.NODES, inputs.RULES)
+WRITES = ("include/wgsl_packed.h",)
 
 HEADER = Path("include/wgsl_packed.h")
 # what a rule is in a list, by its role there
@@ -77,7 +73,3 @@ def main():
     fill(HEADER, "\n#define WGSL_RULES ", str(len(rules)), "\n")
     fill(HEADER, "\n    static const char *const places[] = {\n", filled(places), "\n    };\n")
     fill(HEADER, "\n    static const char roles[] = {\n", filled(roles(sorts)), "\n    };\n")
-
-
-if __name__ == "__main__":
-    main()

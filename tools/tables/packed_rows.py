@@ -1,18 +1,17 @@
-#!/usr/bin/env python3
 """Writes how the Rust crate writes the packed forms of statements, and reads them.
 
-Run it at the top of the repository:
-
-    tools/tables/packed_rows.py
-
-It reads crates/wgsl_model/nodes, and the equations of the packed forms of statements.
+By hand, each statement would be in two more files of that crate.
 """
 import textwrap
 from pathlib import Path
 
+import inputs
 from node_table import Table, snake
 from nodes import filled
 from packed_equations import Equations
+
+READS = (inputs.NODES, "crates/wgsl_model_packed/specs/Statements.antt")
+WRITES = ("bindings/rust/src/packed/*/statements/rows.rs",)
 
 RUST = Path("bindings/rust/src/packed")
 BY = "written by tools/tables/packed_rows.py from their equations"
@@ -135,7 +134,3 @@ def main():
         text = "".join(f"\n{block(f'{macro}!', rows)}\n" for macro, rows in calls)
         (RUST / folder / "statements/rows.rs").write_text(
             f"//! How statements are {what}, {BY}.\n\nuse super::*;\n{text}")
-
-
-if __name__ == "__main__":
-    main()

@@ -1,21 +1,23 @@
-#!/usr/bin/env python3
-"""Writes the rules of the packed form, and their numbers.
+"""Writes the rules of the packed form, and their numbers: the definition of the rules and of their
+JSON, the tables of both that the library prints by, and their numbers for the writer of the library
+and for the Rust crate, with the places of each for that.
 
-Run it at the top of the repository, and then `rt fmt` in the crates that it writes to:
-
-    tools/tables/packed_rules.py
-
-It reads crates/wgsl_model_packed/rules, and writes the definition of the rules and of their JSON,
-the tables of both that the library prints by, and their numbers for the writer of the library and
-for the Rust crate, with the places of each for that. It puts a table of them into docs/TREE.md, and
-how the JSON of each begins into tools/library_kinds.c. It fails if the JSON of a rule has other
-places than its text.
+It puts a table of them into docs/TREE.md, and how the JSON of each begins into
+tools/library_kinds.c. It fails if the JSON of a rule has other places than its text.
 """
 import json
 import re
 import textwrap
 from pathlib import Path
 from typing import NamedTuple
+
+import inputs
+
+READS = (inputs.RULES,)
+WRITES = ("crates/wgsl_model_packed/specs/Rules.antt",
+          "crates/wgsl_model_packed/specs/JsonRules.antt", "crates/wgsl_print_packed/src/rules.rt",
+          "crates/wgsl_tree_packed/src/rules.rt", "bindings/rust/src/packed/rules.rs",
+          "docs/TREE.md", "tools/library_kinds.c")
 
 RULES = Path("crates/wgsl_model_packed/rules")
 SPECS = Path("crates/wgsl_model_packed/specs/Rules.antt")
@@ -193,7 +195,3 @@ def main():
              "<!-- The end of the table. -->")
     if TEST.exists():
         fill(TEST, "\nstatic const char *const starts[] = {\n", starts(rules), "};\n")
-
-
-if __name__ == "__main__":
-    main()

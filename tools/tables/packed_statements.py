@@ -1,26 +1,28 @@
-#!/usr/bin/env python3
 """Writes the functions of wgsl_tree_packed that write the packed forms of statements, and which of
 these a `;` ends.
 
-Run it at the top of the repository, and `rt fmt` in crates/wgsl_tree_packed after it:
-
-    tools/tables/packed_statements.py
-
-It reads crates/wgsl_model/nodes, and the equations of the packed forms of statements.
+By hand, each statement would be in one more file, in two if no `;` ends it.
 """
 import re
 from dataclasses import replace
 from pathlib import Path
 
+import inputs
 from antt import enclosed
+from cycle_parts import Cycle
 from node_table import Table, snake
-from packed_equations import Equations
+from packed_equations import ROOT, Equations
 from plain_trees import constructor, is_apart, short
-from statement_cycle import ROOT, VIEW, Cycle, listed
+from tree_nodes import places
+
+READS = (inputs.NODES, inputs.TREES, inputs.SOURCES, inputs.VIEWS,
+         "crates/wgsl_model_packed/specs/Statements.antt", "crates/wgsl_tree_packed/src/*.rt")
+WRITES = ("crates/wgsl_tree_packed/src/statement.rt", "crates/wgsl_tree_packed/specs/Ended.antt")
 
 CRATE = Path("crates/wgsl_tree_packed")
 TREES = "Rattle.wgsl_model.specs.Trees"
 MINE = "Rattle.wgsl_tree_packed.specs"
+VIEW = "Rattle.wgsl_tree_statement.specs.View"
 PACKED = "Rattle.wgsl_model_packed.specs"
 BY = "Written by tools/tables/packed_statements.py from the equations of packed forms"
 # how many columns an arm has, without those before it
@@ -108,6 +110,16 @@ fn end_of_clauses(clauses: &Vec<SwitchClause>) -> u8
     }
 }
 """
+
+
+def listed(names):
+    """Names as an import lists them."""
+    return ", ".join(sorted(set(names)))
+
+
+def spanned(cycle, name):
+    """The type of a kind, with its span if it has one."""
+    return f"{name}Node" if cycle.table.by_name[name].is_spanned else name
 
 
 def place(field, node):
@@ -210,19 +222,20 @@ def of_struct(equations, name, kind):
 
 def of_optional(equations, cycle, name, held):
     """The function that writes what may be left out."""
-    node, none = cycle.node(held[:-1]), call("rule", [equations.of_none(held)], "")
+    node, none = spanned(cycle, held[:-1]), call("rule", [equations.of_none(held)], "")
     found = body(calls(equations, equations.of_one(held)))
-    form = f"packed_{name} ({cycle.maker(held)} (option_map {snake(node)}_view part.now))"
+    form = f"packed_{name} ({cycle.made_of(held)} (option_map {snake(node)}_view part.now))"
     return function(equations, name, "part", f"Option<{node}>", form,
                     f"match part {{ None => {none}, Some(node) => {{ {found} }} }}")
 
 
 def functions(equations, cycle):
     """The functions of the cycle and those that they call, but for those of other files."""
+    names = [kind.name for kind in cycle.kinds]
     yield from [STATEMENT, ended(equations), unended(equations), BLOCK]
     for name, type_ in equations.functions():
         held = equations.own.get(name, "")
-        if type_ in cycle.names and type_ != ROOT and name != "compound":
+        if type_ in names and type_ != ROOT and name != "compound":
             yield of_struct(equations, name, equations.by_name[type_])
         elif held.endswith("?"):
             yield of_optional(equations, cycle, name, held)
@@ -243,7 +256,7 @@ def source(equations, cycle):
     words = set(re.findall(r"\w+", text))
     own = {"packed_block", "packed_unended_of"}
     forms = {it for it in words if it.startswith("packed_")} - own
-    makers = [it for it in map(cycle.maker, [*cycle.optional, *cycle.lists]) if it in words]
+    makers = [it for it in (cycle.made_of(part.held) for part in cycle.own_parts()) if it in words]
     views = {it for it in words if it.endswith("_view")}
     ghosts = ["Rattle.std.specs.Prelude.{◌≡◌, ◌++◌, map, OnOk}",
               "Rattle.std.specs.Option.{option_map}", f"{TREES}.Statements as plain",
@@ -252,7 +265,7 @@ def source(equations, cycle):
               f"{MINE}.Ended.{{is_ended}}",
               f"{MINE}.Statements.{{{listed(own)}}}",
               f"{VIEW}.{{{listed(views)}}}"]
-    types = [it for it in cycle.nodes() if it in words]
+    types = words & {name for it in cycle.kinds for name in (it.name, spanned(cycle, it.name))}
     uses = [*(called(file, words) for file in CALLED), "std::alloc::AllocError",
             f"wgsl_tree_statement::{{{listed(types)}}}"]
     return "\n".join([f"//! {BY}: statements.",
@@ -276,10 +289,6 @@ def definition(equations):
 
 def main():
     table = Table()
-    equations, cycle = Equations(table), Cycle(table)
+    equations, cycle = Equations(table), Cycle(table, places(), ROOT)
     (CRATE / "src/statement.rt").write_text(source(equations, cycle))
     (CRATE / "specs/Ended.antt").write_text(definition(equations))
-
-
-if __name__ == "__main__":
-    main()

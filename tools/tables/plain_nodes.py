@@ -1,16 +1,12 @@
-#!/usr/bin/env python3
 """Writes the plain trees, from the fields and variants of nodes.
 
-Run it at the top of the repository:
-
-    tools/tables/plain_nodes.py
-
-It reads crates/wgsl_model/nodes; how plain trees differ from that is in plain_trees.py. What makes
-a statement of its parts it leaves out where Statements.antt has that.
+How plain trees differ from these is in plain_trees.py. What makes a statement of its parts it
+leaves out where Statements.antt has that. By hand, each node would be in two more files.
 """
 import re
 from pathlib import Path
 
+import inputs
 from node_specs import cycle
 from node_table import TABLE, snake
 from plain_files import names_only, pass_on, public_names, spoken, texts
@@ -20,6 +16,10 @@ from plain_types import (
     enum, in_order, own_types, parts_of, record, several, spanned, struct, type_of)
 from tree_codes import plain_doc
 from tree_words import is_operator
+
+READS = (inputs.NODES,)
+WRITES = ("crates/wgsl_model/specs/Trees/[AESU]*s.antt",
+          "crates/wgsl_model/specs/Trees/[AESU]*Nodes.antt")
 
 FOLDER = Path("crates/wgsl_model/specs/Trees")
 PRELUDE = ["Bool", "ℕ", "ℤ", "List", "[]", "◌∷◌", "Option", "Some", "None", "codes",
@@ -123,7 +123,3 @@ def main():
         title = f"Written by tools/tables/plain_nodes.py from {TABLE}: the trees of {file.lower()}."
         (FOLDER / f"{name}.antt").write_text("\n".join([f"-- {title}", *uses(text), "", text]))
         pass_on(hand, f"Trees.{name}", public_names(text))
-
-
-if __name__ == "__main__":
-    main()

@@ -1,18 +1,17 @@
-#!/usr/bin/env python3
 """Writes the words of the definitions: operators and named values, with their texts and tables.
-
-Run it at the top of the repository:
-
-    tools/tables/plain_words.py
-
-It reads crates/wgsl_model/nodes.
 """
 from pathlib import Path
 
+import inputs
 from node_table import TABLE, Table, snake
 from plain_files import comment, names_only, pass_on, public_names, spaced, spoken, texts
 from tree_codes import plain_doc
 from tree_words import is_operator, stem
+
+READS = (inputs.NODES,)
+WRITES = ("crates/wgsl_model/specs/Trees/WordNodes.antt",
+          "crates/wgsl_model/specs/Trees/NamedValues.antt",
+          "crates/wgsl_model/specs/Trees/Operators.antt")
 
 TREES = Path("crates/wgsl_model/specs/Trees")
 # the sections of the WGSL draft that say what the words are
@@ -65,7 +64,3 @@ def main():
         *(line for kind in operators for line in enum(kind) + enum_texts(kind)), *values]))
     for file, lines in [("Operators", sum(map(enum, operators), [])), ("NamedValues", values)]:
         pass_on(TREES / f"{file}.antt", "Trees.WordNodes", public_names("\n".join(lines)))
-
-
-if __name__ == "__main__":
-    main()

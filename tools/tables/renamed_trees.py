@@ -1,10 +1,5 @@
-#!/usr/bin/env python3
 """Writes the functions of wgsl_tree_renamed that copy a node with its names replaced, each from the
 fields of its node, and what of their proofs follows from these.
-
-Run it at the top of the repository, and `rt fmt` in crates/wgsl_tree_renamed after it:
-
-    tools/tables/renamed_trees.py
 
 It reads crates/wgsl_model/nodes, the views of the crates, and Renamed of wgsl_model_names, which
 says what keeps its name. The prover checks what it writes. Expressions are renamed by hand; the
@@ -12,12 +7,19 @@ proof of kinds that contain each other is in renamed_cycle.py.
 """
 from pathlib import Path
 
+import inputs
 from cycle_parts import Cycle, Part
 from names_defined import PLAIN, Defined, clauses_in, owners, uses
 from node_table import TABLE, Table
 from plain_trees import constructor, is_apart, short
 from renamed_cycle import answers_of, invariants_of, seen_by, whole
 from tree_nodes import COPIED, ghost_uses, places
+
+READS = (inputs.NODES, inputs.TREES, inputs.NAMES, inputs.SOURCES, inputs.VIEWS,
+         "crates/wgsl_tree_renamed/*/*s.antt", "crates/wgsl_tree_statement/proofs/Views.antt")
+WRITES = ("crates/wgsl_tree_renamed/src/*_nodes.rt",
+          "crates/wgsl_tree_renamed/proofs/statement_nodes/+statements/*.antt",
+          "crates/wgsl_tree_renamed/proofs/unit_nodes/*/renamed/Answers.antt")
 
 CRATE = Path("crates/wgsl_tree_renamed")
 HERE = "Rattle.wgsl_tree_renamed"
@@ -281,7 +283,3 @@ def main():
     folder = CRATE / "proofs/statement_nodes/+statements"
     write(folder / "Answers.antt", answers_of(cycle))
     write(folder / "Invariants.antt", invariants_of(cycle))
-
-
-if __name__ == "__main__":
-    main()

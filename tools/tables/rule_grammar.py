@@ -43,7 +43,8 @@ class Grammar:
 
     def type_of(self, rule):
         """The type of a rule's value, as tokens, where a symbol or a part shows it."""
-        if rule[0] == "app" and rule[1][1] in ("optional", "many", "several", "list", "list_or_none"):
+        ways = ("optional", "many", "several", "list", "list_or_none")
+        if rule[0] == "app" and rule[1][1] in ways:
             part = self.type_of(rule[2][-1])
             return part and ["Option" if rule[1][1] == "optional" else "List", *part]
         if rule[0] == "op" and rule[1] in ("▹", "◃", "or"):

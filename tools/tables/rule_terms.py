@@ -1,7 +1,4 @@
-#!/usr/bin/env python3
 """Writes, for each rule of the written grammar, the proof terms that follow the rule's shape.
-
-Run it at the top of the repository: tools/tables/rule_terms.py
 
 Five theories have lemmas for the ways to write a rule, and a file RuleTerms.antt. The term of a
 rule is found from the public lemmas in the theory's other files: the lemma whose rule is most like
@@ -11,9 +8,13 @@ definitions. A rule that has a lemma in another file is left out. The prover che
 import sys
 from pathlib import Path
 
+import inputs
 from rule_forms import FORMS
 from rule_grammar import Grammar
 from rule_lemmas import Theory
+
+READS = (inputs.GRAMMAR, inputs.TREES, inputs.NAMES, "crates/wgsl_theory_[!g]*/proofs/*.antt")
+WRITES = ("crates/wgsl_theory_*/proofs/*/RuleTerms.antt",)
 
 WIDTH = 100
 # a line that is shorter goes on
@@ -78,7 +79,8 @@ def lemma_of(theory, symbol, rule):
     if term is None:
         sys.exit(f"tools/tables/rule_terms.py: no term for {name}: a part of its rule has no lemma")
     seen = "pub " if symbol in theory.form.untold else ""
-    return name, wrapped(f"{seen}{name} :", says) + "\n" + wrapped(f"{name}{theory.form.binds} =", term)
+    proof = wrapped(f"{name}{theory.form.binds} =", term)
+    return name, wrapped(f"{seen}{name} :", says) + "\n" + proof
 
 
 def write(form, grammar):
@@ -102,7 +104,3 @@ def main():
     grammar = Grammar()
     for form in FORMS:
         write(form, grammar)
-
-
-if __name__ == "__main__":
-    main()

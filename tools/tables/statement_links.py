@@ -1,18 +1,21 @@
-#!/usr/bin/env python3
 """Writes the cases of the choice of statements, in the written and in the factored grammar.
-
-Run it at the top of the repository: tools/tables/statement_links.py
 
 StatementPlaces has each kind of statement as one of the choice, StatementCases what each of the
 choice is in the other form. Both follow from the order of the choices, and from which rule has
-which part after its attributes. A case that does not follow has its lemma in StatementSteps.
+which part after its attributes. A case that does not follow has its lemma in StatementSteps. By
+hand, each statement would change the cases of those after it.
 """
 import re
 from pathlib import Path
 
 import antt
+import inputs
 from antt import enclosed
 from meanings import BEFORE, FACTORED, WRITTEN, bodies
+
+READS = (inputs.FACTORED, "crates/wgsl_theory_grammar/proofs/Forms/*.antt")
+WRITES = ("crates/wgsl_theory_grammar/proofs/Forms/StatementCases.antt",
+          "crates/wgsl_theory_grammar/proofs/Forms/StatementPlaces.antt")
 
 FORMS = Path("crates/wgsl_theory_grammar/proofs/Forms")
 SIMPLE = FORMS / "LeftSides.antt"
@@ -200,8 +203,8 @@ def homes(name, files):
 
 def write(name, says, body, paths):
     """Writes a file."""
-    text = "\n".join([f"-- Written by tools/tables/statement_links.py: {says}.", *imports(body, paths),
-                      "", body, ""])
+    head = f"-- Written by tools/tables/statement_links.py: {says}."
+    text = "\n".join([head, *imports(body, paths), "", body, ""])
     (FORMS / f"{name}.antt").write_text(text)
 
 
@@ -213,7 +216,3 @@ def main():
     body = "\n\n".join("\n".join(it(links)) for it in (statement_in, braced_out, ended_out))
     write("StatementCases", "each of a choice of statements in the other form", body,
           [*FILES, *KNOWN, FACTORED, WRITTEN])
-
-
-if __name__ == "__main__":
-    main()

@@ -1,18 +1,17 @@
-#!/usr/bin/env python3
 """Writes the module of the library that has the names of all nodes and words.
 
-Run it at the top of the repository, and `rt fmt` in crates/wgsl_parse after it:
-
-    tools/tables/syntax_names.py
-
-It reads crates/wgsl_model/nodes, where the crates of the trees declare each, and what other names
-they give to types. A type of these crates that is neither is not in the module.
+A type of the crates of the trees that is not in the table, and no other name for one, is not in the
+module. By hand, each node would be in one more file.
 """
 import re
 from pathlib import Path
 
+import inputs
 from node_table import TABLE, TREES, WORDS, Table, source
 from tree_nodes import places, use_lines
+
+READS = (inputs.NODES, inputs.SOURCES)
+WRITES = ("crates/wgsl_parse/src/syntax.rt",)
 
 MODULE = Path("crates/wgsl_parse/src/syntax.rt")
 # the crate that has the names of another too
@@ -39,7 +38,3 @@ def main():
     lines = [f"pub {it}" for it in use_lines(found)]
     written = f"//! Written by tools/tables/syntax_names.py from {TABLE}: the names of all nodes."
     MODULE.write_text("\n".join([written, "", *lines, ""]))
-
-
-if __name__ == "__main__":
-    main()

@@ -1,38 +1,32 @@
-#!/usr/bin/env python3
-"""Writes the tables of the factored grammar: what each symbol can begin with, whether it
-can be empty, what could go on after it, its rank and its height.
+"""Writes the tables of the factored grammar: what each symbol can begin with, whether it can be
+empty, what could go on after it, its rank and its height.
 
-Run it at the top of the repository:
-
-    tools/tables/tables.py crates/wgsl_theory_grammar
-
-It reads the rules from the definitions, and names each place where one token does not
-decide. Nothing rests on it: the prover checks every entry.
+It names each place where one token does not decide. Half of it reads the rules for `dialect` too.
 """
 import re
 import sys
 from dataclasses import dataclass
 from pathlib import Path
 
+import antt
+import inputs
 import token_table
 
+READS = (inputs.TOKENS, inputs.FACTORED)
+WRITES = ("crates/wgsl_theory_grammar/specs/Tables.antt",)
+
+THEORY = Path("crates/wgsl_theory_grammar")
 MODEL = Path("crates/wgsl_model/specs")
 CLASSES = MODEL / "Tokens" / "ClassTable.antt"
 PARTS = ["ExpressionParts", "StatementParts", "UnitParts", "Written"]
 # the language that is parsed, and the smaller one of a text that is recognised and not parsed
 DIALECTS = ["parsed", "recognized"]
 
-# the operators of the notation: how tightly each binds, and on which side it associates
-OPERATORS = {
-    "◃": (80, "left"), "means": (75, "left"), "then": (70, "right"), "▹": (70, "right"),
-    "gives": (60, "left"), "makes": (60, "left"), "with_check": (60, "left"),
-    "or": (50, "right"), "∷": (45, "right"),
-}
-
 
 @dataclass(frozen=True)
 class Node:
     """A right side: `kind` is the constructor's name."""
+
     kind: str
     parts: tuple = ()
     data: object = None
@@ -41,163 +35,81 @@ class Node:
 EMPTY = Node("empty")
 
 
+def node(kind, *parts):
+    return Node(kind, parts)
+
+
 def token(classes):
     return Node("token", (), tuple(classes))
 
 
-def pair(first, second):
-    return Node("sequence", (first, second))
+def mapped(*parts):
+    """Parts one after another, of which something is made."""
+    return node("mapped", parts[0] if len(parts) == 1 else node("sequence", *parts))
 
 
-def either(first, second):
-    return Node("choice", (first, second))
+def listed(comma, part):
+    """Parts with commas between, and maybe one after the last."""
+    separated = node("left_chain", mapped(part), mapped(token([comma]), part))
+    return node("choice", separated, mapped(separated, token([comma])))
 
 
-def wrapped(part):
-    return Node("mapped", (part,))
-
-
-def spanned(part):
-    return Node("node", (part,))
-
-
-def chain(first, item):
-    return Node("left_chain", (first, item))
-
-
-class Expression:
-    """Reads an expression of the notation; an action (a λ) is opaque."""
-
-    def __init__(self, text):
-        self.words = re.findall(r"\{[^{}]*\}|\"[^\"]*\"|[(),]|[^\s(),{}\"]+", text)
-        self.at = 0
-
-    def peek(self):
-        return self.words[self.at] if self.at < len(self.words) else None
-
-    def read(self, tightness=0):
-        left = self.application()
-        while self.peek() in OPERATORS and OPERATORS[self.peek()][0] >= tightness:
-            operator = self.peek()
-            level, side = OPERATORS[operator]
-            self.at += 1
-            left = ("operator", operator, left, self.read(level + (side == "left")))
-        return left
-
-    def application(self):
-        items = []
-        while self.peek() is not None and self.peek() not in OPERATORS and self.peek() not in "),":
-            if self.peek() == "λ":
-                self.skip_action()
-                items.append(("opaque",))
-            elif self.peek() == "(":
-                items.append(self.in_brackets())
-            elif self.peek().startswith("{"):
-                self.at += 1
-            else:
-                items.append(("name", self.peek()))
-                self.at += 1
-        if not items:
-            return ("opaque",)
-        return items[0] if len(items) == 1 else ("apply", items[0], items[1:])
-
-    def in_brackets(self):
-        self.at += 1
-        inside = self.read()
-        while self.peek() == ",":
-            self.at += 1
-            self.read()
-            inside = ("opaque",)
-        self.at += 1
-        return inside
-
-    def skip_action(self):
-        depth = 0
-        while self.peek() is not None and not (depth == 0 and self.peek() == ")"):
-            depth += {"(": 1, ")": -1}.get(self.peek(), 0)
-            self.at += 1
-
-
-def without_comments(path):
-    lines = []
-    for line in path.read_text().split("\n"):
-        if line.lstrip().startswith("--") or line.startswith(("use ", "infix")):
-            continue
-        if line.startswith(" ") and lines:
-            lines[-1] += " " + line.strip()
-        else:
-            lines.append(line)
-    return lines
-
-
-def definitions(paths):
-    """The clauses `name patterns = right side` of some files, by name."""
-    found = {}
-    for path in paths:
-        for line in without_comments(path):
-            if " = " not in line or line.startswith(("abbrev", "pub", "mutual")):
-                continue
-            head, body = line.split(" = ", 1)
-            left = Expression(head).application()
-            if left[0] == "name":
-                found.setdefault(left[1], []).append(([], body))
-            elif left[0] == "apply" and left[1][0] == "name":
-                found.setdefault(left[1][1], []).append((left[2], body))
-    return found
-
-
-def constructors(path, name):
-    """The names that a `data` declares, in order."""
-    block = re.search(rf"pub data {name} : Type 0 where\n((?:  [^\n]*\n)+)", path.read_text()).group(1)
-    lines = [line.strip() for line in block.split("\n")]
-    return [word for line in lines if line and not line.startswith("--") for word in line.split(" : ")[0].split()]
+# what the words of the notation make of their arguments, and its signs of their sides: what is on
+# the right of some is not read
+WORDS = {
+    "empty": lambda value: EMPTY,
+    "token": token,
+    "one_token": lambda it: token([it]),
+    "left_chain": lambda action, first, item: node("left_chain", first, item),
+    "optional": lambda part: node("choice", mapped(part), EMPTY),
+    "many": lambda part: node("left_chain", EMPTY, part),
+    "several": lambda part: node("left_chain", mapped(part), part),
+    "lifted": lambda part: part,
+    "list": listed,
+    "list_or_none": lambda comma, part: node("choice", listed(comma, part), EMPTY),
+}
+ALONE = {
+    "means": lambda it: mapped(token([it])),
+    "gives": mapped,
+    "makes": lambda it: node("node", it),
+    "with_check": lambda it: node("checked", it),
+}
+SIDES = {
+    "∷": lambda first, others: [first, *others],
+    "then": lambda first, second: node("sequence", first, second),
+    "or": lambda first, second: node("choice", first, second),
+    "▹": lambda first, second: mapped(token([first]), second),
+    "◃": lambda first, second: mapped(first, token([second])),
+}
 
 
 class Rules:
-    """Evaluates right sides in one dialect."""
+    """Evaluates right sides in one dialect; what is no rule has no value."""
 
-    def __init__(self, found, classes, dialect):
-        self.found = found
-        self.classes = classes
-        self.dialect = dialect
+    def __init__(self, paths, classes, dialect):
+        self.found, self.classes, self.dialect = {}, classes, dialect
+        for path in paths:
+            for name, clauses in antt.Module(path).clauses.items():
+                self.found.setdefault(name, []).extend(clauses)
 
     def is_met(self, pattern):
         """Whether a pattern is a name, and this dialect's where it is the name of one."""
         return pattern[0] == "name" and (pattern[1] not in DIALECTS or pattern[1] == self.dialect)
 
-    def value(self, tree, names):
-        kind = tree[0]
-        if kind == "opaque":
-            return None
-        if kind == "operator":
-            return self.operation(tree, names)
-        if kind == "name":
-            return self.call(tree[1], [], names)
-        return self.call(tree[1][1], tree[2], names)
-
-    def operation(self, tree, names):
-        _, operator, left, right = tree
-        first = self.value(left, names)
-        if operator == "means":
-            return wrapped(token([first]))
-        if operator == "gives":
-            return wrapped(first)
-        if operator == "makes":
-            return spanned(first)
-        if operator == "with_check":
-            return Node("checked", (first,))
-        second = self.value(right, names)
-        if operator == "∷":
-            return [first] + second
-        if operator == "then":
-            return pair(first, second)
-        if operator == "or":
-            return either(first, second)
-        if operator == "▹":
-            return wrapped(pair(token([first]), second))
-        return wrapped(pair(first, token([second])))
+    def value(self, term, names):
+        """The value of a term, in which names have values."""
+        if term[0] == "name":
+            return self.call(term[1], [], names)
+        if term[0] == "app" and term[1][0] == "name":
+            return self.call(term[1][1], [it for it in term[2] if it[1][:1] != "{"], names)
+        if term[0] == "op" and term[1] in ALONE:
+            return ALONE[term[1]](self.value(term[2], names))
+        if term[0] == "op" and term[1] in SIDES:
+            return SIDES[term[1]](*(self.value(side, names) for side in term[2:]))
+        return None
 
     def call(self, name, arguments, names):
+        """The value of a name at terms."""
         if name in names and not arguments:
             return names[name]
         if name in self.classes:
@@ -205,66 +117,46 @@ class Rules:
         if name == "[]":
             return []
         if name == "symbol":
-            return Node("symbol", (), self.symbol(arguments[0]))
+            return Node("symbol", (), symbol(arguments[0]))
         values = [self.value(argument, names) for argument in arguments]
-        notation = getattr(self, "notation_" + name, None)
-        if notation:
-            return notation(*values)
-        clauses = [c for c in self.found.get(name, []) if all(map(self.is_met, c[0]))]
+        if name in WORDS:
+            return WORDS[name](*values)
+        clauses = [it for it in self.found.get(name, []) if all(map(self.is_met, it[0]))]
         if len(clauses) == 1 and len(clauses[0][0]) == len(arguments):
             patterns, body = clauses[0]
-            return self.value(Expression(body).read(), dict(zip((p[1] for p in patterns), values)))
+            return self.value(antt.term(body), dict(zip((it[1] for it in patterns), values)))
         return None
 
-    @staticmethod
-    def symbol(tree):
-        return ("of", tree[1]) if tree[0] == "name" else (tree[1][1], tree[2][0][1])
-
-    # the words of the notation that are not definitions of the grammar
-    notation_empty = staticmethod(lambda value: EMPTY)
-    notation_token = staticmethod(token)
-    notation_one_token = staticmethod(lambda c: token([c]))
-    notation_left_chain = staticmethod(lambda action, first, item: chain(first, item))
-    notation_optional = staticmethod(lambda part: either(wrapped(part), EMPTY))
-    notation_many = staticmethod(lambda part: chain(EMPTY, part))
-    notation_several = staticmethod(lambda part: chain(wrapped(part), part))
-    notation_lifted = staticmethod(lambda part: part)
-
-    @staticmethod
-    def notation_list(comma, part):
-        separated = chain(wrapped(part), wrapped(pair(token([comma]), part)))
-        return either(separated, wrapped(pair(separated, token([comma]))))
-
-    def notation_list_or_none(self, comma, part):
-        return either(self.notation_list(comma, part), EMPTY)
-
-    def right_side(self, body):
-        return self.value(Expression(body).read(), {})
-
     def clauses(self, name):
-        """The clauses of a function of a dialect and a symbol that are this dialect's, by the pattern of the symbol."""
-        return [(patterns[1], body) for patterns, body in self.found[name] if self.is_met(patterns[0])]
+        """The clauses of a function of a dialect and a symbol that are this dialect's, by the
+        pattern of the symbol."""
+        return [(patterns[1], body) for patterns, body in self.found[name]
+                if self.is_met(patterns[0])]
 
 
-def rules(theory, dialect):
+def symbol(term):
+    """A symbol: whether it is a written or a further one, and its name."""
+    return ("of", term[1]) if term[0] == "name" else (term[1][1], term[2][0][1])
+
+
+def rules(dialect):
     """The right side of each symbol in a dialect, in the order of the symbols."""
-    factored = theory / "specs/Factored.antt"
+    factored = THEORY / "specs/Factored.antt"
     parts = [MODEL / "Grammar" / f"{part}.antt" for part in PARTS]
-    found = definitions([CLASSES, *parts, factored])
-    reader = Rules(found, set(token_table.Table().classes), dialect)
+    reader = Rules([CLASSES, *parts, factored], set(token_table.Table().classes), dialect)
     own = {}
     for pattern, body in reader.clauses("factored"):
         if pattern[2][0][1] not in ("n", "x"):
-            own[Rules.symbol(pattern)] = body
+            own[symbol(pattern)] = body
     for pattern, body in reader.clauses("further_body"):
         own["further", pattern[1]] = body
     for pattern, body in reader.clauses("rules"):
         own.setdefault(("of", pattern[1]), body)
-    order = [("of", n) for n in constructors(MODEL / "Grammar" / "Symbols.antt", "Symbol")]
-    order += [("further", x) for x in constructors(factored, "Further")]
+    order = [("of", n) for n in antt.constructors(MODEL / "Grammar" / "Symbols.antt", "Symbol")]
+    order += [("further", x) for x in antt.constructors(factored, "Further")]
     missing = [n for n in order if n not in own]
     assert not missing, f"no rule for {missing}"
-    return {n: reader.right_side(own[n]) for n in order}
+    return {n: reader.value(antt.term(own[n]), {}) for n in order}
 
 
 class Tables:
@@ -277,8 +169,9 @@ class Tables:
         self.more = {n: frozenset() for n in table}
         self.rank = dict.fromkeys(table, 0)
         self.height = dict.fromkeys(table)
-        for values, of in [(self.empty, self.nullable), (self.first, self.begins), (self.more, self.goes_on),
-                           (self.rank, self.left_rank), (self.height, self.least_height)]:
+        for values, of in [(self.empty, self.nullable), (self.first, self.begins),
+                           (self.more, self.goes_on), (self.rank, self.left_rank),
+                           (self.height, self.least_height)]:
             self.close(values, of)
 
     def close(self, values, of):
@@ -322,7 +215,8 @@ class Tables:
         if g.kind == "sequence":
             return sets[1] | (sets[0] if self.nullable(g.parts[1]) else frozenset())
         if g.kind == "choice":
-            return sets[0] | sets[1] | (self.begins(g.parts[0]) if self.nullable(g.parts[1]) else frozenset())
+            first = self.begins(g.parts[0]) if self.nullable(g.parts[1]) else frozenset()
+            return sets[0] | sets[1] | first
         if g.kind == "left_chain":
             return self.begins(g.parts[1]) | sets[1] | sets[0]
         return sets[0]
@@ -402,10 +296,15 @@ class Writer:
         for classes, symbols in users.items():
             if len(symbols) > 1 and len(classes) > 2:
                 shared[classes] = f"{prefix}_{symbols[0][1]}"
-                self.lines += ["", f"-- {says} {', '.join(n[1] for n in symbols)}", f"abbrev pub {shared[classes]} : List ℕ",
-                               f"{shared[classes]} = {self.set_text(classes)}"]
-        self.lines += ["", f"-- {says} each symbol", f"abbrev pub {name} : FactoredSymbol → List ℕ"]
-        self.clauses(name, {n: shared.get(values[n]) or self.set_text(values[n]) for n in self.order})
+                self.define(f"{says} {', '.join(n[1] for n in symbols)}", shared[classes], "List ℕ")
+                self.lines.append(f"{shared[classes]} = {self.set_text(classes)}")
+        self.define(f"{says} each symbol", name, "FactoredSymbol → List ℕ")
+        self.clauses(name, {n: shared.get(values[n]) or self.set_text(values[n])
+                            for n in self.order})
+
+    def define(self, says, name, type_):
+        """The lines before the clauses of a definition."""
+        self.lines += ["", f"-- {says}", f"abbrev pub {name} : {type_}"]
 
     def clauses(self, name, texts):
         """A clause for each symbol, and one for all that have the value which most have."""
@@ -414,39 +313,42 @@ class Writer:
         self.lines += [f"{name} n = {most}"]
 
     def numbers(self, name, says, values):
-        self.lines += ["", f"-- {says}", f"abbrev pub {name} : FactoredSymbol → ℕ"]
+        self.define(says, name, "FactoredSymbol → ℕ")
         self.clauses(name, {n: str(values[n]) for n in self.order})
 
     def text(self):
         tables = self.tables
         self.sets("firsts", "begin", "the classes that begin", tables.first)
-        self.lines += ["", "-- the symbols that can be empty", "abbrev pub empties : FactoredSymbol → Bool"]
+        self.define("the symbols that can be empty", "empties", "FactoredSymbol → Bool")
         self.clauses("empties", {n: str(tables.empty[n]).lower() for n in self.order})
         self.sets("mores", "after", "the classes that could go on after", tables.more)
-        self.numbers("ranks", "how many symbols can follow one another before a token is taken", tables.rank)
+        self.numbers("ranks", "how many symbols can follow one another before a token is taken",
+                     tables.rank)
         self.numbers("heights", "how many symbols are within one another at least", tables.height)
-        limit = max(map(tables.all_ranks, tables.table.values()))
-        self.lines += ["", "-- the greatest rank of a part", "abbrev pub rank_limit : ℕ", f"rank_limit = {limit}",
-                       "", "-- all of them", "abbrev pub tables : Tables FactoredSymbol",
-                       "tables = record { first = firsts; empty = empties; more = mores; rank = ranks }", ""]
+        self.define("the greatest rank of a part", "rank_limit", "ℕ")
+        self.lines.append(f"rank_limit = {max(map(tables.all_ranks, tables.table.values()))}")
+        self.define("all of them", "tables", "Tables FactoredSymbol")
+        self.lines += ["tables = record { first = firsts; empty = empties; more = mores; "
+                       "rank = ranks }", ""]
         body = "\n".join(self.lines)
         words = set(re.findall(r"\w+", body))
-        used = ", ".join(c for c in self.place if c in words)
-        symbols = ", ".join(f"Symbol.{n[1]}" for n in self.order if n[0] == "of" and pattern(n) in body)
-        further = ", ".join(f"Further.{n[1]}" for n in self.order if n[0] == "further" and pattern(n) in body)
+        used = [it for it in self.place if it in words]
+        symbols, further = ([f"{type_}.{n[1]}" for n in self.order
+                             if n[0] == kind and pattern(n) in body]
+                            for type_, kind in (("Symbol", "of"), ("Further", "further")))
+        further = ["FactoredSymbol", "FactoredSymbol.of", "FactoredSymbol.further", *further]
         return "\n".join([
             "-- The tables of the factored grammar, written by tools/tables/tables.py.",
             "use Rattle.std.specs.Prelude.{ℕ, Bool, true, false, List, [], ◌∷◌}",
             "use Rattle.grammar.specs.Tables.{Tables}",
-            f"use Rattle.wgsl_model.specs.Tokens.ClassTable.{{{used}}}",
-            f"use Rattle.wgsl_model.specs.Grammar.Symbols.{{{symbols}}}",
-            f"use Rattle.{self.crate}.specs.Factored.{{FactoredSymbol, FactoredSymbol.of, FactoredSymbol.further, {further}}}",
-        ]) + "\n" + body
+            f"use Rattle.wgsl_model.specs.Tokens.ClassTable.{{{', '.join(used)}}}",
+            f"use Rattle.wgsl_model.specs.Grammar.Symbols.{{{', '.join(symbols)}}}",
+            f"use Rattle.{THEORY.name}.specs.Factored.{{{', '.join(further)}}}",
+            body])
 
 
 def main():
-    theory = Path(sys.argv[1])
-    tables = Tables(rules(theory, "parsed"))
+    tables = Tables(rules("parsed"))
     found = [(n, text) for n, g in tables.table.items() for text in tables.conflicts(g)]
     for n, text in found:
         print(f"{n[1]}: {text}")
@@ -456,9 +358,4 @@ def main():
     if found or bare:
         sys.exit(1)
     writer = Writer(tables, token_table.Table().classes)
-    writer.crate = theory.name
-    (theory / "specs/Tables.antt").write_text(writer.text())
-
-
-if __name__ == "__main__":
-    main()
+    (THEORY / "specs/Tables.antt").write_text(writer.text())

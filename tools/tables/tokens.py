@@ -1,20 +1,20 @@
-#!/usr/bin/env python3
 """Writes what follows from the tokens alone: their classes and the lists of these, their kinds in
 the library, in the Rust crate and in include/wgsl.h, and the reserved words.
-
-Run it at the top of the repository, and then `rt fmt` in crates/wgsl_lex_token:
-
-    tools/tables/tokens.py
-
-It reads crates/wgsl_model/tokens. The prover checks what it writes for the library.
 """
 import textwrap
 from itertools import groupby
 from pathlib import Path
 
+import inputs
 from node_table import snake
 from nodes import fill
 from token_table import TABLE, Table
+
+READS = (inputs.TOKENS,)
+WRITES = ("crates/wgsl_model/specs/Tokens/ClassTable.antt",
+          "crates/wgsl_model/specs/Tokens/Words/ReservedTable.antt",
+          "crates/wgsl_lex_token/*/*able.*", "bindings/rust/src/kind.rs", "include/wgsl.h",
+          "bindings/web/kinds.*")
 
 MODEL = Path("crates/wgsl_model/specs/Tokens")
 CRATE = Path("crates/wgsl_lex_token")
@@ -239,7 +239,3 @@ def main():
         path.parent.mkdir(exist_ok=True)
         path.write_text(text)
     write_bindings(table)
-
-
-if __name__ == "__main__":
-    main()

@@ -1,20 +1,19 @@
-#!/usr/bin/env python3
 """Writes the code of each plain tree in wgsl_tree_code: its fields by their names, with its spans.
 
-Run it at the top of the repository:
-
-    tools/tables/tree_codes.py
-
-It reads crates/wgsl_model/nodes; what the plain trees have otherwise is in plain_trees.py.
+By hand, each node would be in one more definition; `tree_readers` and `tree_spans` follow it.
 """
 import re
 from dataclasses import dataclass
 from pathlib import Path
 
+import inputs
 from node_groups import MODULES, by_module
 from node_table import TABLE, Table, separated, snake
 from plain_trees import (
     CONSTRUCTED, INLINE, OWN, RENAMED, UNATTRIBUTED, coded, constructor, is_apart, word_text)
+
+READS = (inputs.NODES, inputs.MODEL, inputs.SOURCES)
+WRITES = ("crates/wgsl_tree_code/specs/*Nodes.antt",)
 
 SPECS = Path("crates/wgsl_tree_code/specs")
 PRELUDE = "Rattle.std.specs.Prelude"
@@ -22,25 +21,35 @@ TREES = "Rattle.wgsl_model.specs.Trees"
 CODE = ["Code", "text", "natural", "boolean", "number", "absent", "list", "Codes", "no_codes",
         "code_before", "node_of", "variant", "list_of", "optional", "pair_of", "placed",
         "attributed_code"]
+# the functions that give the codes of what holds no nodes
+SIMPLE = {"String": "text", "Ident": "text", "bool": "boolean", "u32": "natural", "i32": "number",
+          "i64": "number"}
 BLOCK = "block_code attributes (statements_code statements)"
 
 
 def files(table):
-    """The files, what each has, the module of its plain trees, and the kinds whose trees are there."""
+    """The files: what each has, the module of its plain trees, and the kinds of these."""
     names = by_module(table)
     return [(codes, what, plain, names[codes]) for codes, what, plain in MODULES]
 
 
 def own_name(held):
-    """The name of the function for a list or an optional part that has a type of its own."""
-    return coded(OWN[held][0] if held != "TemplateArg*" else "TemplateExpressions")
+    """The name of a list or an optional part that has a type of its own."""
+    return "TemplateExpressions" if held == "TemplateArg*" else OWN[held][0]
+
+
+def own_types(table, names):
+    """The lists and optional parts of some kinds that have types of their own."""
+    helds = {held for kind in table.kinds if kind.name in CONSTRUCTED for _, held in kind.parts}
+    helds |= {held[:-1] for held in helds if held[:-1] in OWN}
+    return [held for held in OWN if held in helds and re.match(r"\w+", held)[0] in names]
 
 
 def of_item(table, held):
     """The function that gives the code of a value of a type."""
     kind = table.by_name.get(held)
-    if held in ("String", "Ident"):
-        return "text"
+    if held in SIMPLE:
+        return SIMPLE[held]
     if held.startswith("("):
         first, second = separated(held[1:-1])
         return f"(λ p. pair_of ({value(table, first, 'p.0')}) ({value(table, second, 'p.1')}))"
@@ -53,7 +62,7 @@ def value(table, held, place, own=False):
     """The code of a value of a type; in a tree made by constructors some types are its own."""
     if own and held in OWN:
         front = "list " if held.endswith("*") else ""
-        inner = f"{own_name(held)} {place}"
+        inner = f"{coded(own_name(held))} {place}"
         return f"{front}({inner})" if front else inner
     if held == "Attribute*":
         return f"attributes_code {place}"
@@ -61,8 +70,7 @@ def value(table, held, place, own=False):
         return f"optional {parenthesized(function(table, held[:-1]))} {place}"
     if held.endswith("*"):
         return f"list_of {of_item(table, held[:-1])} {place}"
-    simple = {"bool": "boolean", "u32": "natural", "i32": "number", "i64": "number"}
-    return f"{simple.get(held) or of_item(table, held)} {place}"
+    return f"{of_item(table, held)} {place}"
 
 
 def function(table, held):
@@ -181,12 +189,8 @@ def spanned_function(kind):
 
 def own_functions(table, kinds):
     """The codes of the lists and of the optional parts that have types of their own."""
-    helds = {held for kind in table.kinds if kind.name in CONSTRUCTED for _, held in kind.parts}
-    helds |= {held[:-1] for held in helds if held[:-1] in OWN}
-    for held, (type_, none, one) in OWN.items():
-        if held not in helds or re.match(r"\w+", held)[0] not in kinds:
-            continue
-        name = own_name(held)
+    for held in own_types(table, kinds):
+        (type_, none, one), name = OWN[held], coded(own_name(held))
         if held.endswith("*"):
             item = f"{of_item(table, held[:-1])} x"
             if held == "TemplateArg*":
@@ -299,7 +303,3 @@ def main():
         made = list(functions(table, kinds))
         homes |= {it.name: name for it in made}
         (SPECS / f"{name}.antt").write_text(file_text(table, what, module, made, homes))
-
-
-if __name__ == "__main__":
-    main()

@@ -1,22 +1,25 @@
-#!/usr/bin/env python3
 """Writes the functions that copy a node, each from the fields of its node, and what of their proofs
 follows from these.
 
-Run it at the top of the repository, and `rt fmt` in the crates that it writes after it:
-
-    tools/tables/tree_copies.py
-
-It reads crates/wgsl_model/nodes and the views of the crates. The prover checks what it writes.
-Copies of expressions are written by hand. What proves copies of kinds that contain each other is
-in cycle_copies.py.
+Copies of expressions are written by hand. What proves copies of kinds that contain each other is in
+cycle_copies.py.
 """
 import re
 from pathlib import Path
 
+import goals
+import inputs
 from cycle_copies import ROOTS, answers_of_cycle, own_functions
 from cycle_parts import Cycle, Part
+from goals import c, proof
 from node_table import TABLE, Table
 from tree_nodes import COPIED, ghost_uses, places, use_lines, views
+
+READS = (inputs.NODES, inputs.TREES, inputs.SOURCES, inputs.VIEWS,
+         "crates/wgsl_tree_*/proofs/Copies.antt", "crates/wgsl_tree_statement/proofs/Views.antt")
+WRITES = ("crates/wgsl_tree_*/src/copies_nodes.rt",
+          "crates/wgsl_tree_*/proofs/copies_nodes/+clone/*.antt",
+          "crates/wgsl_tree_*/proofs/copies_nodes/*/clone_with/Answers.antt")
 
 CRATES = ["attribute", "simple", "statement", "unit"]
 # the crates whose functions copy a list of attributes, and a list of names
@@ -119,7 +122,8 @@ class Copies:
             prelude = ["ghost use Rattle.std.specs.Option.{option_map};",
                        "ghost use Rattle.std.specs.Prelude.{◌≡◌, IfOk, map};"]
         return "\n".join([
-            f"//! Written by tools/tables/tree_copies.py from {TABLE}: copies of nodes.", "", *prelude,
+            f"//! Written by tools/tables/tree_copies.py from {TABLE}: copies of nodes.", "",
+            *prelude,
             *ghost_uses(f"wgsl_tree_{self.crate}.specs.View", names), "",
             *self.uses(text), "", text])
 
@@ -140,15 +144,12 @@ class Copies:
     def answers(self, kind):
         """The proof that a copy is seen as its node is, where a field is a list or a type that may
         be left out; search finds the others."""
-        calls, lines, lemmas, seen, hard = 0, [], set(), set(), False
-        for name, held in kind.parts:
-            if not self.copy(held, name).endswith(".clone_with(alloc)?"):
-                continue
-            calls += 1
+        copied = [it for it in kind.parts if self.copy(it[1], "").endswith(".clone_with(alloc)?")]
+        lines, lemmas, seen, hard = [], set(), set(), False
+        for (name, held), call in zip(copied, goals.in_order(["clone_with"] * len(copied))):
             if held[-1] in "*?":
                 hard = hard or held != "Expression?"
-                call = f"clone_with-{calls}" if calls > 1 else "clone_with"
-                lemma, part, cited = self.shown(name, held, f"c.in_ok-{call}.ensures.copy")
+                lemma, part, cited = self.shown(name, held, c.ok(call).ensures("copy"))
                 lemmas.add(lemma)
                 seen |= {part} if part else set()
                 lines += cited
@@ -162,10 +163,10 @@ class Copies:
         return "\n".join([
             f"-- Written by tools/tables/tree_copies.py from {TABLE}.",
             "use Rattle.std.proofs.Common.{rules}", *uses,
-            f"use {LEMMAS}.{{{', '.join(lemmas)}}}", 
+            f"use {LEMMAS}.{{{', '.join(lemmas)}}}",
             f"use {proofs}.{kind.name}CloneWith.clone_with.Goals as goal", "",
-            "pub returns : goal.returns", "returns c =", "    let original = c.args.self.now in",
-            *lines, "    search rules", ""])
+            proof(goals.returns(), "\n".join([
+                "", f"    let original = {c.given('self')} in", *lines, "    search rules"]), "c")])
 
 
 def main():
@@ -181,7 +182,3 @@ def main():
                 place = folder / f"proofs/copies_nodes/{kind.name}CloneWith/clone_with/Answers.antt"
                 place.parent.mkdir(parents=True, exist_ok=True)
                 place.write_text(answers)
-
-
-if __name__ == "__main__":
-    main()

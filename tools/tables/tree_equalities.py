@@ -1,24 +1,27 @@
-#!/usr/bin/env python3
 """Writes `==` of the kinds that contain each other, from their fields and variants, with the proofs
 that it is sameness of the codes of the plain trees.
-
-Run it at the top of the repository, and `rt fmt` in the crates that it writes after it:
-
-    tools/tables/tree_equalities.py
-
-It reads crates/wgsl_model/nodes, the views, and the lemmas about `==` of the parts that are of
-other crates. The prover checks what it writes.
 """
 import re
 import sys
 from dataclasses import dataclass
 from pathlib import Path
 
+import goals
+import inputs
 from cycle_parts import LIBRARY, Cycle, imports
+from goals import c, proof, then, unless, w
 from node_table import TABLE, Table, snake
 from plain_trees import coded
 from tree_nodes import ghost_uses, places, use_lines
 from tree_terms import bracketed
+
+READS = (inputs.NODES, inputs.TREES, inputs.SOURCES, inputs.VIEWS,
+         "crates/wgsl_tree_code/specs/*.antt", "crates/wgsl_tree_*/proofs/Equalities.antt",
+         "crates/wgsl_tree_statement/proofs/BlockStatements.antt",
+         "crates/wgsl_tree_statement/proofs/Views.antt")
+WRITES = ("crates/wgsl_tree_statement/src/equality_nodes.rt",
+          "crates/wgsl_tree_statement/proofs/EqualityNodes.antt",
+          "crates/wgsl_tree_statement/proofs/equality_nodes/+equal/*.antt")
 
 ROOTS = ["Statement"]
 WRITTEN = f"Written by tools/tables/tree_equalities.py from {TABLE}"
@@ -32,21 +35,23 @@ class Step:
     """A part of a struct that `==` compares: its call, and the test of it and of those before."""
 
     part: object
-    base: str
     call: str
     test: str
 
 
 def steps(cycle, kind):
     """The parts of a struct, with the names that their calls and tests have in a proof."""
-    found, counts = [], {}
-    for part in cycle.parts(kind):
-        base = f"{cycle.stem(part.held)}_equal" if cycle.is_own(part) else "eq"
-        counts[base] = counts.get(base, 0) + 1
-        number = counts[base]
-        call = base if number == 1 else f"{base}-then-{found[-1].test}"
-        found.append(Step(part, base, call, base if number == 1 else f"{base}-{number}"))
+    found, parts = [], cycle.parts(kind)
+    names = [f"{cycle.stem(it.held)}_equal" if cycle.is_own(it) else "eq" for it in parts]
+    for part, name, test in zip(parts, names, goals.in_order(names)):
+        call = name if test == name else goals.at(name, then(found[-1].test))
+        found.append(Step(part, call, test))
     return found
+
+
+def eq_of(kind):
+    """The function that tests a kind."""
+    return goals.method(kind.name, "PartialEq", "eq")
 
 
 class Code:
@@ -252,36 +257,37 @@ class Answers:
             return f" ∙ options_same {view} {code} _ {same} (λ x. refl) a.{name} b.{name}"
         return f" ∙ {same} a.{name} b.{name}" if same in self.same.values() else ""
 
-    def tested(self, step, before, c):
-        """That a call tests a part, where the call is a field of c."""
-        proof = f"{c}.{step.call}.ensures{self.alike(step.part)}"
+    def tested(self, step, before, known):
+        """That a call tests a part, from what is known."""
+        said = f"{known.of(step.call).ensures()}{self.alike(step.part)}"
         if self.cycle.is_own(step.part) and step.part.is_list:
-            first, second = f"{c}.deref.ensures.value", f"{c}.deref-then-{before}.ensures.value"
-            proof += f" ∙ (λ i. {self.cycle.stem(step.part.held)}_alike ({first} i) ({second} i))"
-        return proof
+            first, second = (known.of(it).ensures("value")
+                             for it in ("deref", goals.at("deref", then(before))))
+            said += f" ∙ (λ i. {self.cycle.stem(step.part.held)}_alike ({first} i) ({second} i))"
+        return said
 
     def value(self, found, count):
         """The value of the tests of the first parts."""
-        return "c.eq.result" if count == 1 else f"c.if-{found[count - 2].test}.value"
+        return c.of("eq.result") if count == 1 else c.test(found[count - 2].test).of("value")
 
     def tests(self, kind, found):
         """The parts of a node, and that the tests of all but the last are those of their codes."""
         lemmas = Lemmas(self.cycle)
-        lines = [f"let {it} = layers.out-{kind.name} c.args.{whole}.now in"
+        lines = [f"let {it} = layers.out-{kind.name} {c.given(whole)} in"
                  for it, whole in [("a", "self"), ("b", "other")]]
         lines += [f"let part_{at} = {lemmas.compared(step.part)} in"
                   for at, step in enumerate(found, 1)]
-        first = self.tested(found[0], "", "c")
+        first = self.tested(found[0], "", c)
         lines.append(f"let tested_1 : {self.value(found, 1)} ≡ part_1 = {first} in")
-        eq = f"{kind.name}PartialEq::eq"
         for at in range(2, len(found)):
             test, step = found[at - 2].test, found[at - 1]
             type_, before = f"{self.value(found, at)} ≡ {chain(at)}", f"tested_{at - 1}"
+            yes, no = (goals.at(eq_of(kind), way(test)) for way in (then, unless))
             lines += [
-                f"let tested_{at} : {type_} = elim c.if-{test}.branch [",
-                f"  | {eq}-then-{test} w ↦ and_true w.if-{test}.true {before} "
-                f"(w.value-is ∙ {self.tested(step, test, 'w')})",
-                f"  | {eq}-else-{test} w ↦ and_false _ w.if-{test}.false {before} w.value-is",
+                f"let tested_{at} : {type_} = elim {c.test(test).of('branch')} [",
+                f"  | {yes} w ↦ and_true {w.test(test).of('true')} {before} "
+                f"({w.of('value-is')} ∙ {self.tested(step, test, w)})",
+                f"  | {no} w ↦ and_false _ {w.test(test).of('false')} {before} {w.of('value-is')}",
                 "] in"]
         return lines
 
@@ -290,51 +296,48 @@ class Answers:
         found = steps(self.cycle, kind)
         lines = "".join(f"    {line}\n" for line in self.tests(kind, found))
         test, count = found[-2].test, len(found) - 1
-        same = f"sym ({snake(kind.name)}_same c.args.self.now c.args.other.now)"
-        last = self.tested(found[-1], test, "c")
-        for name, proof in [
-                ("then", f"and_true c.if-{test}.true tested_{count} {bracketed(last)}"),
-                ("else", f"and_false _ c.if-{test}.false tested_{count} refl")]:
-            goal = f"{kind.name}PartialEq::eq-returns-{name}-{test}"
-            yield f"pub {goal} : goal.{goal}\n{goal} t c =\n{lines}    {proof} ∙ {same}\n"
+        same = f"sym ({snake(kind.name)}_same {c.given('self')} {c.given('other')})"
+        last = bracketed(self.tested(found[-1], test, c))
+        yes, no = (c.test(test).of(it) for it in ("true", "false"))
+        for way, said in [(then, f"and_true {yes} tested_{count} {last}"),
+                          (unless, f"and_false _ {no} tested_{count} refl")]:
+            yield proof(goals.returns(eq_of(kind), way(test)), f"\n{lines}    {said} ∙ {same}")
 
     def listed(self, part):
         """The goals of the test of a list."""
         stem = self.cycle.stem(part.held)
-        lets = "    let xs = c.args.a.now in\n    let ys = c.args.b.now in\n"
-        item = f"{stem}_item"
-        index = "c.index-a-i.is c.index-b-i.is c.items.invariant"
-        differ = (f"    let differ : same ({item} c.index-a-i.result) ({item} c.index-b-i.result) "
+        lets = f"    let xs = {c.given('a')} in\n    let ys = {c.given('b')} in\n"
+        item, i, so_far = f"{stem}_item", c.of("items.i"), c.of("items.invariant")
+        x, y = c.index("a", "i"), c.index("b", "i")
+        differ = (f"    let differ : same ({item} {x.of('result')}) ({item} {y.of('result')}) "
                   "≡ false = search rules in\n")
         found = "(search rules) (search rules)"
-        for goal, more, proof in [
-                ("-then-a-b", "", f"unlike {item} xs ys (λ e. search rules)"),
-                ("-then-not-eq", differ,
-                 f"next_differs {item} xs ys c.items.i _ _ {found} {index} differ"),
-                ("", "", f"none_left {item} xs ys c.items.i {found} c.items.invariant")]:
-            name = f"{stem}_equal-returns{goal}"
-            yield (f"pub {name} : goal.{name}\n{name} t c =\n{lets}{more}"
-                   f"    sym ({stem}_same xs ys ∙ {proof})\n")
+        for places, more, said in [
+                ([then("a-b")], "", f"unlike {item} xs ys (λ e. search rules)"),
+                ([then("not-eq")], differ, f"next_differs {item} xs ys {i} _ _ {found} "
+                 f"{x.of('is')} {y.of('is')} {so_far} differ"),
+                ([], "", f"none_left {item} xs ys {i} {found} {so_far}")]:
+            yield proof(goals.returns(f"{stem}_equal", *places), f"\n{lets}{more}"
+                        f"    sym ({stem}_same xs ys ∙ {said})")
 
     def variants(self):
         """The goals of the variants of the enum that hold something: they are equal, or are not."""
-        root, number = self.cycle.root, 0
-        for part in filter(lambda it: it.held, self.cycle.parts(root)):
-            number += 1
-            call = "c.eq" if number == 1 else f"c.eq-in-{part.name}"
-            a, b = f"c.in-{part.name}", f"c.in-{part.name}-matches"
-            alike = f"{call}.ensures"
+        root = self.cycle.root
+        parts = [part for part in self.cycle.parts(root) if part.held]
+        for number, part in enumerate(parts, 1):
+            call = "eq" if number == 1 else goals.at("eq", goals.arm(part.name))
+            a, b = c.arm(part.name), c.of(goals.matches(part.name))
+            x, y, alike = a.of("a"), b.of("b"), f"{c.of(call).ensures()}"
             if part.held == "CompoundStatement":
                 view = self.cycle.view(part.held)
-                alike += f" ∙ sym (blocks_same ({view} {a}.a) ({view} {b}.b))"
+                alike += f" ∙ sym (blocks_same ({view} {x}) ({view} {y}))"
             elif not self.cycle.has(part):
-                alike += f" ∙ {self.same[part.held]} {a}.a {b}.b"
+                alike += f" ∙ {self.same[part.held]} {x} {y}"
             is_ = f"is_{snake(part.name)}"
-            default = "in_default-matches" + (f"-{number}" if number > 1 else "")
-            for name in (f"in-{part.name}-matches", default):
-                goal = f"{root.name}PartialEq::eq-returns-{name}"
-                yield (f"pub {goal} : goal.{goal}\n{goal} t c = of_one_kind {a}.is ({is_} {a}.a) "
-                       f"{b}.is ({is_} {b}.b)\n    {bracketed(alike)} (search rules)\n")
+            for place in (goals.matches(part.name), goals.differs(number)):
+                yield proof(goals.returns(eq_of(root), place),
+                            f" of_one_kind {a.of('is')} ({is_} {x}) {b.of('is')} ({is_} {y})\n"
+                            f"    {bracketed(alike)} (search rules)")
 
     def text(self):
         """The file of the proofs."""
@@ -354,8 +357,8 @@ class Answers:
             "specs.View", "proofs.Views", "proofs.BlockStatements",
             "proofs.Equalities", "proofs.EqualityNodes")]
         place = f"{crate}.proofs.equality_nodes.+equal.Goals"
-        branches = [f"{kind.name}PartialEq::eq-{way}-{step.test}" for kind in cycle.structs
-                    for step in steps(cycle, kind)[:-2] for way in ("then", "else")]
+        branches = [goals.at(eq_of(kind), way(step.test)) for kind in cycle.structs
+                    for step in steps(cycle, kind)[:-2] for way in (then, unless)]
         root = cycle.root.name
         return "\n".join([
             f"-- {WRITTEN}.", *imports(body, cycle, modules, others),
@@ -371,7 +374,7 @@ class Answers:
                  f"use {crate}.EqualityNodes.{{{', '.join(f'{it}_item' for it in stems)}}}",
                  f"use {crate}.equality_nodes.+equal.Given as goal"]
         for stem in stems:
-            name, same = f"invariant-{stem}_equal-items", f"all_same {stem}_item"
+            name, same = goals.invariant(f"{stem}_equal", "items"), f"all_same {stem}_item"
             lines += ["", f"abbrev pub {name} : goal.{name}",
                       f"{name} l = {same} l.a l.b ≡ {same} (drop l.i l.a) (drop l.i l.b)"]
         return "\n".join([*lines, ""])
@@ -388,7 +391,3 @@ def main():
         (folder / "proofs/EqualityNodes.antt").write_text(Lemmas(cycle).text())
         (proofs / "Answers.antt").write_text(answers.text())
         (proofs / "Invariants.antt").write_text(answers.invariants())
-
-
-if __name__ == "__main__":
-    main()

@@ -1,23 +1,26 @@
-#!/usr/bin/env python3
 """Writes which statements are spelled as they are printed, and that the pieces of these fit.
 
-Run it at the top of the repository: tools/tables/tree_fits.py
-
-It reads the types of the trees and the functions of wgsl_model that print statements, and in the
-files of wgsl_theory_printed what holds of parts and that their pieces fit. Of a tree holds what
-holds of its parts, in their order.
+Of a tree holds what holds of its parts, in their order. By hand, each statement would be in a
+definition and in a lemma more, and a part that is printed otherwise in a lemma.
 """
 import re
 
 import antt
+import inputs
 from antt import enclosed, last
 from node_table import camel
 from printed_parts import End, Fitting, NeedsClosed, Rest, Row
 from printed_trees import CHANGES, fields, mutual
 from tree_pieces import END, THEORY, Pieces
 
+READS = (inputs.TOKENS, inputs.PRINTED, inputs.PIECES,
+         "crates/wgsl_theory_printed/proofs/TreePieces/PiecesNodes.antt",
+         "crates/wgsl_theory_printed/proofs/Fits/*.antt")
+WRITES = ("crates/wgsl_theory_printed/proofs/Fits/FittingNodes.antt",)
+
 HEAD = """\
--- Written by tools/tables/tree_fits.py from wgsl_model: statements whose names and literals are spelled as
+-- Written by tools/tables/tree_fits.py from wgsl_model: statements whose names and literals are \
+spelled as
 -- they are printed: the pieces of these fit.
 """
 FILES = ["FittingStatements", "FittingAttributes", "FittingExpressions", "FittingSigns",
@@ -235,7 +238,3 @@ def main():
                         *(text for it in lists for text in closing(fits, it)),
                         lemmas(fits)]) + "\n"
     (THEORY / "Fits/FittingNodes.antt").write_text(HEAD + fits.names.file(body))
-
-
-if __name__ == "__main__":
-    main()

@@ -1,21 +1,18 @@
-#!/usr/bin/env python3
 """Writes what follows from the variants of nodes in the crates of the trees: the functions `is_*`
 and `unwrap_*`, the conversions from what a variant holds, and which variant a plain tree is.
-
-Run it at the top of the repository, and `rt fmt` in the crates that it writes after it:
-
-    tools/tables/tree_nodes.py
-
-It reads crates/wgsl_model/nodes, the views of the crates and the plain trees of wgsl_model. The
-prover checks what it writes.
 """
 import re
 from dataclasses import dataclass
 from pathlib import Path
 
+import inputs
 from antt import source
-from node_table import TABLE, TREES, WORDS, Table, snake
+from node_table import TABLE, TREES, WORDS, Table, snake, sources
 
+READS = (inputs.NODES, inputs.TREES, inputs.SOURCES, inputs.VIEWS)
+WRITES = ("crates/wgsl_tree_*/src/variants_nodes.rt", "crates/wgsl_tree_*/specs/VariantsNodes.antt")
+
+WRITTEN = f"Written by tools/tables/tree_nodes.py from {TABLE}"
 PLAIN = Path("crates/wgsl_model/specs")
 # the constructors whose names are not those of their variants
 CONSTRUCTORS = {"Bool": "boolean", "Struct": "structure"}
@@ -51,7 +48,7 @@ def places():
     """Where each type is declared."""
     found = {}
     for crate in [WORDS, *TREES]:
-        for file in sorted(Path(f"crates/wgsl_tree_{crate}/src").glob("*.rt")):
+        for file in sources(crate):
             names = re.findall(r"^pub (?:struct|enum|type) (\w+)", file.read_text(), re.M)
             found |= dict.fromkeys(names, Place(crate, file.stem))
     return found
@@ -153,7 +150,7 @@ def tested(enum, variant):
 def spec(found):
     """The file that says which variant a plain tree is; the definitions of the printed text say it
     of an empty one."""
-    lines = [f"-- Written by tools/tables/tree_nodes.py from {TABLE}: which variant a plain tree is.",
+    lines = [f"-- {WRITTEN}: which variant a plain tree is.",
              "use Rattle.std.specs.Prelude.{Bool, true, false}",
              f"use Rattle.wgsl_model.specs.{found[0].view.file} as plain", ""]
     for enum in found:
@@ -276,7 +273,7 @@ class Writer:
 
     def code(self):
         """The file of the functions."""
-        head = (f"//! Written by tools/tables/tree_nodes.py from {TABLE}: which variant a node is,\n"
+        head = (f"//! {WRITTEN}: which variant a node is,\n"
                 "//! what it holds, and what becomes one.\n")
         texts = [text for enum in self.enums for text in self.functions(enum)]
         return "\n".join([head, *self.ghosts(), "", *self.uses(), "", *texts])
@@ -288,7 +285,3 @@ def main():
         writer, folder = Writer(table, crate, at), Path(f"crates/wgsl_tree_{crate}")
         (folder / "src/variants_nodes.rt").write_text(writer.code())
         (folder / "specs/VariantsNodes.antt").write_text(spec(writer.enums))
-
-
-if __name__ == "__main__":
-    main()

@@ -1,25 +1,26 @@
-#!/usr/bin/env python3
 """Writes the pieces of the printed text of statements, and that they print it.
 
-Run it at the top of the repository: tools/tables/tree_pieces.py
-
-It reads the functions of wgsl_model that print statements, the table of tokens, and in the files
-of wgsl_theory_printed which pieces print a part.
+By hand, each statement would be in one more file, and a part that is printed otherwise too.
 """
 import re
 import sys
 from pathlib import Path
 
 import antt
+import inputs
 from antt import enclosed, last, match, renamed, substituted
 from printed_parts import TEXT, End, Held, Indented, Line, Lines, Row, Sign, Space, Tree, grouped
 from printed_trees import Printed, Written, mutual
 from token_table import Table
 
+READS = (inputs.TOKENS, inputs.PRINTED, inputs.PIECES)
+WRITES = ("crates/wgsl_theory_printed/proofs/TreePieces/PiecesNodes.antt",)
+
 THEORY = Path("crates/wgsl_theory_printed/proofs")
 TOKENS = Path("crates/wgsl_theory_reread/specs/CanonicalStatements.antt")
 HEAD = """\
--- Written by tools/tables/tree_pieces.py from wgsl_model: the pieces of printed statements, some levels of
+-- Written by tools/tables/tree_pieces.py from wgsl_model: the pieces of printed statements, some \
+levels of
 -- indentation deep and before the pieces that follow: they print them and have their tokens.
 """
 FILES = ["TreePieces/PiecesOfStatements", "TreePieces/PiecesOfExpressions", "TreePieces/Printing"]
@@ -116,7 +117,7 @@ class Pieces:
                 (variable,), found = steps[0][2], {}
                 if match(self.unfolded(antt.term(given)[2][0]), term, {variable}, found):
                     return f"{name} {found[variable][1]}"
-        return sys.exit("tools/tables/tree_pieces.py: no lemma says that an indented text is not empty")
+        return sys.exit("tools/tables/tree_pieces.py: no lemma says that a text is not empty")
 
     def unfolded(self, term):
         """The text of a statement as its parts; others are left."""
@@ -241,7 +242,3 @@ def laws_of(file):
             _, _, (_, text, put, _) = antt.term(given)
             if text[0] == "app":
                 yield name, values[0][0], text, put
-
-
-if __name__ == "__main__":
-    main()

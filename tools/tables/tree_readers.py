@@ -1,19 +1,20 @@
-#!/usr/bin/env python3
 """Writes what reads the plain tree of each kind of node from its code, and the lemma that this
 gives back the tree.
 
-Run it at the top of the repository, after tools/tables/tree_codes.py:
-
     tools/tables/tree_readers.py
-
-It reads crates/wgsl_model/nodes; what the plain trees have otherwise is in plain_trees.py.
 """
+import inputs
 import tree_codes
 from node_table import TABLE, Table, separated, snake
-from plain_trees import CONSTRUCTED, INLINE, OWN, RENAMED, UNATTRIBUTED, coded, constructor, is_apart
-from tree_codes import files
-from tree_terms import (CODES, PROOFS, SIMPLE, Codes, Item, applied, bracketed, file_text, own_name,
-                        own_types, pattern_of, place_of)
+from plain_trees import (
+    CONSTRUCTED, INLINE, OWN, RENAMED, UNATTRIBUTED, coded, constructor, is_apart)
+from tree_codes import SIMPLE, files, own_name, own_types
+from tree_terms import (
+    CODES, PROOFS, Codes, Item, applied, bracketed, file_text, pattern_of, place_of)
+
+READS = (inputs.NODES, inputs.MODEL, inputs.SOURCES, "crates/wgsl_tree_code/specs/*.antt",
+         "crates/wgsl_tree_code/proofs/Reading.antt", "crates/wgsl_tree_code/proofs/Spanless.antt")
+WRITES = ("crates/wgsl_tree_code/proofs/Read*Nodes.antt",)
 
 # what the lemma of an optional part says of a kind: that its code is not `absent`
 THERE = {"Expression": "expression_node_there", "TypeExpression": "type_expression_there"}
@@ -63,8 +64,9 @@ class Readers(Codes):
         if held[-1] in "?*":
             inner = held[:-1]
             words = f"{self.code(inner)} {self.of(inner)} {self.read(inner)}"
-            there = f" {THERE.get(inner, '(λ x. refl)')}"
-            return f"(optional_read {words}{there})" if held.endswith("?") else f"(items_read {words})"
+            if held.endswith("*"):
+                return f"(items_read {words})"
+            return f"(optional_read {words} {THERE.get(inner, '(λ x. refl)')})"
         if held.startswith("("):
             parts = separated(held[1:-1])
             words = [f"{self.code(it)} {self.of(it)} {self.read(it)}" for it in parts]
@@ -157,7 +159,8 @@ def struct_lemma(kind, proof):
     if not is_apart(kind):
         said, left = f"(x : plain.{kind.name}) → {front} x) ≡ Some x", pattern
     elif len(kind.parts) == 1:
-        said, left = f"(attributes : Attributes) → {front} attributes) ≡ Some attributes", "attributes"
+        left = "attributes"
+        said = f"(attributes : Attributes) → {front} attributes) ≡ Some attributes"
     else:
         said = (f"(attributes : Attributes) (x : plain.{kind.name}) → {front} attributes x) "
                 "≡ Some (with_attributes attributes x)")
@@ -233,7 +236,8 @@ def enum_items(readers, kind):
             words.append((name, f"Some {bracketed(made)}"))
             clauses.append((bracketed(made), "refl"))
     cases = [("(text name)", f"chosen name ({table_of(words)})")] * bool(words)
-    cases += [("(node (field name value no_fields))", f"chosen name ({table_of(others)})")] * bool(others)
+    node = "(node (field name value no_fields))"
+    cases += [(node, f"chosen name ({table_of(others)})")] * bool(others)
     yield Item(reader(kind.name), f"Code → Option plain.{kind.name}", [*cases, ("c", "None")])
     yield from enum_lemmas(kind, [*clauses, *last])
 
@@ -292,7 +296,8 @@ def own_optional_items(readers, held):
     else:
         pattern, inside = "(node cs)", f"{readers.of(item).removesuffix('_of')}_in cs"
         kind = readers.table.by_name[item]
-        opened, proof = pattern_of(kind), struct_proof(readers, kind) if kind.form == "struct" else ""
+        opened = pattern_of(kind)
+        proof = struct_proof(readers, kind) if kind.form == "struct" else ""
     if item == "Statement":
         opened = "(plain.statement_node n span)"
         proof = chain(["statement_read n i"], "plain.statement_node x0 span")
@@ -301,7 +306,8 @@ def own_optional_items(readers, held):
         ("absent", f"Some plain.{none}"), (pattern, chain([inside], tree)), ("c", "None")])
     said = f"(x : plain.{type_}) → {reader(name)} ({coded(name)} x) ≡ Some x"
     yield Item(lemma(name), said, [
-        (f"plain.{none}", "refl"), (f"(plain.{one} {opened})", f"λ i. {chain([proof], tree)}")], True)
+        (f"plain.{none}", "refl"),
+        (f"(plain.{one} {opened})", f"λ i. {chain([proof], tree)}")], True)
 
 
 def word_items(kind):
@@ -318,9 +324,9 @@ def attributes_items():
     """What reads a list of attributes, also as all that a node has, and the lemmas."""
     yield Item("attributes_of", "Code → Option Attributes",
                [("c", "list_read_of attribute_node_of c")])
+    read = "items_read attribute_node_code attribute_node_of attribute_node_read x"
     yield Item("attributes_read",
-               "(x : Attributes) → attributes_of (attributes_code x) ≡ Some x",
-               [("x", "items_read attribute_node_code attribute_node_of attribute_node_read x")], True)
+               "(x : Attributes) → attributes_of (attributes_code x) ≡ Some x", [("x", read)], True)
     yield Item("lone_attributes_of", "Code → Option Attributes", [
         (node_pattern(["c0"]), named(["attributes"], "attributes_of c0")), ("c", "None")])
     node = '(node (field (codes "attributes") (attributes_code x) no_fields))'
@@ -368,10 +374,7 @@ def homes(table):
 def main():
     table = Table()
     for name, what, module, names in files(table):
-        head = f"Written by tools/tables/tree_readers.py from {TABLE}: {what.lower()} read from their codes."
+        head = (f"Written by tools/tables/tree_readers.py from {TABLE}: {what.lower()} read from "
+                "their codes.")
         text = file_text(head, module, list(items(Readers(table), names)), homes(table))
         (PROOFS / f"Read{name}.antt").write_text(text)
-
-
-if __name__ == "__main__":
-    main()

@@ -1,20 +1,20 @@
-#!/usr/bin/env python3
 """Writes the lemma, for each kind of node, that its code without spans is the code of its plain
 tree without them, and what follows: when the codes of two trees are the same.
 
-Run it at the top of the repository, after tools/tables/tree_readers.py:
-
     tools/tables/tree_spans.py
-
-It reads crates/wgsl_model/nodes; what the plain trees have otherwise is in plain_trees.py.
 """
+import inputs
 from node_table import TABLE, Table, separated, snake
 from plain_trees import (CONSTRUCTED, INLINE, OWN, SPANLESS, UNATTRIBUTED, bare, coded, constructor,
                          is_apart)
-from tree_codes import files
+from tree_codes import SIMPLE, files, own_name, own_types
 from tree_readers import homes, lemma, reader
-from tree_terms import (CODES, PROOFS, SIMPLE, Codes, Item, applied, bracketed, file_text, own_name,
-                        own_types, pattern_of, place_of)
+from tree_terms import (
+    CODES, PROOFS, Codes, Item, applied, bracketed, file_text, pattern_of, place_of)
+
+READS = (inputs.NODES, inputs.MODEL, inputs.SOURCES, "crates/wgsl_tree_code/specs/*.antt",
+         "crates/wgsl_tree_code/proofs/Reading.antt", "crates/wgsl_tree_code/proofs/Spanless.antt")
+WRITES = ("crates/wgsl_tree_code/proofs/Spanless*Nodes.antt",)
 
 
 def spanless(name):
@@ -159,7 +159,8 @@ def spanned_items(spans, kind):
     pattern, place = (f"(plain.{snake(name)} n span)", "n") if is_own else ("s", "s.node")
     type_ = f"plain.{name}" if is_own else f"Spanned plain.{kind.name}"
     without = spans.bare(kind.name).strip("()")
-    yield Item(spanless(name), f"(x : {type_}) → spanless ({coded(name)} x) ≡ {coded(name)} ({without} x)",
+    said = f"(x : {type_}) → spanless ({coded(name)} x) ≡ {coded(name)} ({without} x)"
+    yield Item(spanless(name), said,
                [(pattern, f"λ i. placed no_span ({spanless(kind.name)} {place} i)")], True)
 
 
@@ -179,7 +180,8 @@ def own_items(spans, held):
 
 def attributes_item():
     """The lemma of a list of attributes."""
-    lists = "list_spanless attribute_node_code (bare_spanned bare_attribute) attribute_node_spanless x"
+    lists = ("list_spanless attribute_node_code (bare_spanned bare_attribute) "
+             "attribute_node_spanless x")
     return Item("attributes_spanless", "(x : Attributes) → spanless (attributes_code x) "
                 "≡ attributes_code (bare_attributes x)", [("x", lists)], True)
 
@@ -230,9 +232,6 @@ def main():
         made = list(items(Spans(table), names))
         places |= {it.name: f"{CODES}.proofs.Spanless{name}" for it in made}
         if made:
-            head = f"Written by tools/tables/tree_spans.py from {TABLE}: {what.lower()} without their spans."
+            head = (f"Written by tools/tables/tree_spans.py from {TABLE}: {what.lower()} without "
+                    "their spans.")
             (PROOFS / f"Spanless{name}.antt").write_text(file_text(head, module, made, places))
-
-
-if __name__ == "__main__":
-    main()

@@ -4,18 +4,15 @@ import re
 from dataclasses import dataclass
 from pathlib import Path
 
-from antt import source
+from antt import last
 from node_table import separated
-from plain_trees import CONSTRUCTED, OWN, RENAMED, coded, is_apart
-from tree_codes import groups
+from plain_trees import CONSTRUCTED, RENAMED, is_apart
+from tree_codes import function, groups, parenthesized
 
 PROOFS = Path("crates/wgsl_tree_code/proofs")
 CODES = "Rattle.wgsl_tree_code"
 TREES = "Rattle.wgsl_model.specs.Trees"
 PRELUDE = "Rattle.std.specs.Prelude"
-# the codes of what holds no nodes, each of whose lemmas is in Reading
-SIMPLE = {"String": "text", "Ident": "text", "bool": "boolean", "u32": "natural", "i32": "number",
-          "i64": "number"}
 # where the names are that lemmas use, beside those of generated files
 MODULES = ["wgsl_model/specs/Trees/Spanned", "wgsl_model/specs/Trees/Attributed",
            "wgsl_model/specs/Trees/Attributes", "wgsl_model/specs/Trees/WithoutSpans",
@@ -38,7 +35,8 @@ class Item:
 
     def text(self, front=""):
         """Its text."""
-        clauses = [" ".join(f"{self.name} {left} = {right}".split()) for left, right in self.clauses]
+        clauses = [" ".join(f"{self.name} {left} = {right}".split())
+                   for left, right in self.clauses]
         return "\n".join([f"{front}pub {self.name} : {self.type}", *clauses])
 
     def calls(self):
@@ -55,18 +53,6 @@ def applied(function, *arguments):
     """A function with its arguments."""
     is_group = function.startswith("(") and not function.startswith("(λ")
     return " ".join([function[1:-1] if is_group else function, *arguments])
-
-
-def own_name(held):
-    """The name of a list or an optional part that has a type of its own."""
-    return "TemplateExpressions" if held == "TemplateArg*" else OWN[held][0]
-
-
-def own_types(table, names):
-    """The lists and optional parts of some kinds that have types of their own."""
-    helds = {held for kind in table.kinds if kind.name in CONSTRUCTED for _, held in kind.parts}
-    helds |= {held[:-1] for held in helds if held[:-1] in OWN}
-    return [held for held in OWN if held in helds and re.match(r"\w+", held)[0] in names]
 
 
 def place_of(kind, name):
@@ -87,22 +73,13 @@ class Codes:
         self.table = table
 
     def code(self, held):
-        """That of a type."""
-        kind = self.table.by_name.get(held)
-        if held in SIMPLE:
-            return SIMPLE[held]
-        if held == "Attribute*":
-            return "attributes_code"
+        """That of a type, as an argument."""
         if held.endswith("?"):
             return f"(optional {self.code(held[:-1])})"
-        if held.endswith("*"):
-            return f"(list_of {self.code(held[:-1])})"
         if held.startswith("("):
             first, second = separated(held[1:-1])
             return f"(λ p. pair_of ({self.code(first)} p.0) ({self.code(second)} p.1))"
-        if kind.is_spanned:
-            return coded(f"{held}Node")
-        return f"(attributed_code {coded(held)})" if is_apart(kind) else coded(held)
+        return parenthesized(function(self.table, held))
 
 
 def bodies(items, front):
@@ -116,10 +93,12 @@ def bodies(items, front):
 
 def exports(module):
     """The names of a module that others may use."""
-    text = source(Path(f"crates/{module}.antt"))
+    text = Path(f"crates/{module}.antt").read_text()
+    passed = " ".join(re.findall(r"^pub use \S+\.\{([^}]*)\}", text, re.M))
     # the fields of a record are not names of the module
     text = re.sub(r"^(pub record .*\n)(?:  .*\n)+", r"\1", text, flags=re.M)
-    return set(STATED.findall(text)) | set(CONSTRUCTORS.findall(text))
+    names = [*STATED.findall(text), *CONSTRUCTORS.findall(text), *re.findall(r"[\w.]+", passed)]
+    return set(map(last, names))
 
 
 def imports(text, module, homes):

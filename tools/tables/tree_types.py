@@ -1,19 +1,14 @@
-#!/usr/bin/env python3
-"""Writes bindings/web/tree.d.ts: the types of the trees of bindings/web/tree.js, and its functions.
-
-Run it at the top of the repository:
-
-    tools/tables/tree_types.py
-
-It reads crates/wgsl_model/nodes, and from crates/wgsl_model_packed/kinds the names of further
-fields.
-"""
+"""Writes the types of the trees of bindings/web/tree.js and of its functions, for TypeScript."""
 import re
 from pathlib import Path
 
+import inputs
 from node_table import Table, separated
 from nodes import field_doc, variant_doc
 from packed_kinds import lines, type_of
+
+READS = (inputs.NODES, inputs.RULES)
+WRITES = ("bindings/web/tree.d.ts",)
 
 TYPES = Path("bindings/web/tree.d.ts")
 # the kinds of trees that are read from a text
@@ -150,7 +145,3 @@ def union(name, types):
 
 def main():
     TYPES.write_text(Types(Table()).text())
-
-
-if __name__ == "__main__":
-    main()

@@ -1,18 +1,17 @@
-#!/usr/bin/env python3
 """Writes what attributes are as plain data, from the fields and variants of their nodes.
 
-Run it at the top of the repository:
-
-    tools/tables/tree_views.py
-
-It reads crates/wgsl_model/nodes and the plain trees of wgsl_model. The views of other nodes are
-written by hand: there attributes are moved out of a node, or types contain each other.
+The views of statements are in cycle_views.py, those of other nodes are written by hand. By hand,
+each attribute would be in one more file.
 """
 from pathlib import Path
 
+import inputs
 from node_table import TABLE, Table, snake
 from tree_nodes import Plain, makers_of, places
 from tree_words import stem
+
+READS = (inputs.NODES, inputs.TREES, inputs.SOURCES)
+WRITES = ("crates/wgsl_tree_attribute/specs/ViewNodes.antt",)
 
 CRATE = "attribute"
 FILE = "Trees.Attributes"
@@ -110,7 +109,3 @@ def main():
         is_struct = kind.form == "struct"
         lines += struct_view(table, kind) if is_struct else enum_view(table, kind, plain)
     Path(f"crates/wgsl_tree_{CRATE}/specs/ViewNodes.antt").write_text("\n".join(lines))
-
-
-if __name__ == "__main__":
-    main()

@@ -1,25 +1,31 @@
-#!/usr/bin/env python3
 """Writes the functions that remove the empty statements from every list of statements, each from
 the fields and variants of its node, and their proofs.
 
-Run it at the top of the repository, and `rt fmt` in crates/wgsl_tree_statement after it:
-
-    tools/tables/tree_voids.py
-
-It reads crates/wgsl_model/nodes and the plain trees of wgsl_model. The prover checks what it
-writes.
+By hand, each statement that holds others would be in two more files.
 """
 import re
 from pathlib import Path
 
+import goals
+import inputs
 from cycle_parts import LIBRARY, Cycle, imports
+from goals import c, proof
 from node_table import TABLE, Table, snake
 from plain_trees import OWN, constructor, is_apart
 from tree_nodes import Plain, ghost_uses, places, use_lines
 from tree_terms import bracketed
 
+READS = (inputs.NODES, inputs.TREES, inputs.SOURCES, inputs.VIEWS,
+         "crates/wgsl_tree_statement/proofs/BlockStatements.antt",
+         "crates/wgsl_tree_statement/proofs/EmptyStatements.antt",
+         "crates/wgsl_tree_statement/proofs/Views.antt")
+WRITES = ("crates/wgsl_tree_statement/src/voids_nodes.rt",
+          "crates/wgsl_tree_statement/proofs/+remove/*.antt")
+
 CRATE = Path("crates/wgsl_tree_statement")
 WRITTEN = f"Written by tools/tables/tree_voids.py from {TABLE}"
+# what is known of the call that a function has for an item
+CALL = c.of("remove_voids")
 # the kinds from which others remove empty statements
 PUBLIC = ["Statement", "CompoundStatement"]
 COMMON = "Rattle.std.proofs.Common"
@@ -136,13 +142,11 @@ class Answers:
 
     def calls(self, kind):
         """The parts of a struct that are changed, each with its call and its value after it."""
-        counts = {}
-        for part in filter(self.cycle.has, self.cycle.parts(kind)):
-            is_own = self.cycle.is_own(part)
-            base = f"remove_from_{self.cycle.stem(part.held)}" if is_own else "remove_voids"
-            counts[base] = counts.get(base, 0) + 1
-            call = base if counts[base] == 1 else f"{base}-{counts[base]}"
-            yield part, f"c.{call}", f"c.{call}.new.{'part' if is_own else 'self'}"
+        parts = [it for it in self.cycle.parts(kind) if self.cycle.has(it)]
+        calls = goals.in_order(f"remove_from_{self.cycle.stem(it.held)}" if self.cycle.is_own(it)
+                               else "remove_voids" for it in parts)
+        for part, call in zip(parts, map(c.of, calls)):
+            yield part, call, call.new("part" if self.cycle.is_own(part) else "self")
 
     def changes(self, kind):
         """What is shown of the parts that are changed one after another: the layer after each, and
@@ -154,7 +158,7 @@ class Answers:
             full = bracketed(self.full.of(part.held))
             seen = f"{full} ({self.cycle.shown(part.held, f'r.{part.name}{items}')})"
             more = f" ∙ ap (λ {layer}. {seen}) same_{at - 1}" if same else ""
-            yield f"let {part.name} = {call}.ensures{more} in"
+            yield f"let {part.name} = {call.ensures()}{more} in"
             change = f"{{ {part.name} = {new} }}"
             again = f"layers.out-{kind.name} (layers.roll-{kind.name}"
             before = f"({again} {state}))" if same else state
@@ -169,9 +173,9 @@ class Answers:
     def struct(self, kind):
         """That a struct is without its empty statements where its parts are."""
         parts, name = self.cycle.parts(kind), snake(kind.name)
-        goal, calls = f"{self.method(kind)}-returns", list(self.calls(kind))
+        calls = list(self.calls(kind))
         lines = list(self.changes(kind)) if len(calls) > 1 else [
-            f"let {part.name} = {call}.ensures in" for part, call, _ in calls]
+            f"let {part.name} = {call.ensures()} in" for part, call, _ in calls]
         values = {part.name: f"{part.name} i" if self.cycle.has(part)
                   else self.cycle.shown(part.held, f"original.{part.name}") for part in parts}
         split = any(self.cycle.is_own(part) and part.is_optional for part in parts)
@@ -183,11 +187,11 @@ class Answers:
                     f"(ap (λ (r : Opened layer.{kind.name}-F). record r "
                     f"{{ {calls[-1][0].name} = {calls[-1][2]} }}) same_{len(calls) - 1}) ∙ {roll}")
         lets = "".join(f"    {line}\n" for line in [
-            f"let original = layers.out-{kind.name} c.args.self.now in", *lines])
+            f"let original = layers.out-{kind.name} {c.given('self')} in", *lines])
         full = bracketed(self.full.of(kind.name))
-        return (f"pub {goal} : goal.{goal}\n{goal} t c =\n{lets}    {roll} ∙ "
-                f"(λ i. {self.cycle.made(kind, values)}) ∙ "
-                f"sym (ap {full} ({name}_out c.args.self.now))\n")
+        return proof(goals.returns(self.method(kind)), f"\n{lets}    {roll} ∙ "
+                     f"(λ i. {self.cycle.made(kind, values)}) ∙ "
+                     f"sym (ap {full} ({name}_out {c.given('self')}))")
 
     def variants(self):
         """That a variant of a statement is without its empty statements where what it holds is."""
@@ -196,19 +200,20 @@ class Answers:
         for at, part in enumerate(held):
             kind, view = self.cycle.table.by_name[part.held], self.cycle.view(part.held)
             full, is_ = self.full.of(part.held), f"is_{snake(part.name)}"
-            call = f"c.remove_voids-in-{part.name}" if at else "c.remove_voids"
+            arm = c.arm(part.name)
+            call = c.of(goals.at("remove_voids", goals.arm(part.name)) if at else "remove_voids")
             made = (f"(plain.as_statement plain.{constructor(root, part.name)})" if is_apart(kind)
                     else "plain.block_statement")
             block = ("" if is_apart(kind)
-                     else f" ∙ sym (block_full ({view} c.in-{part.name}.inner))")
-            goal = f"{self.method(root)}-returns-in-{part.name}"
-            yield (f"pub {goal} : goal.{goal}\nunfolding roll-{root.name} Carrier.roll\n"
-                   f"{goal} t c =\n    let seen = {call}.ensures ∙ "
-                   f"ap (λ (b : {part.held}). {full} ({view} b)) "
-                   f"c.in-{part.name}.inner-is in\n"
-                   f"    let whole = {is_} {call}.new.self ∙ ap {made} seen{block} ∙ "
-                   f"sym (ap full_statement ({is_} c.in-{part.name}.inner)) in\n"
-                   f"    rw c.in-{part.name}.is (search (rules, whole))\n")
+                     else f" ∙ sym (block_full ({view} {arm.of('inner')}))")
+            yield proof(
+                goals.returns(self.method(root), goals.arm(part.name)),
+                f"\n    let seen = {call.ensures()} ∙ ap (λ (b : {part.held}). {full} ({view} b)) "
+                f"{arm.of('inner-is')} in\n"
+                f"    let whole = {is_} {call.new('self')} ∙ ap {made} seen{block} ∙ "
+                f"sym (ap full_statement ({is_} {arm.of('inner')})) in\n"
+                f"    rw {arm.of('is')} (search (rules, whole))",
+                front=f"unfolding roll-{root.name} Carrier.roll\n")
 
     def function(self, part):
         """That a list, or a part that may be left out, is without its empty statements."""
@@ -221,55 +226,56 @@ class Answers:
         whole = f"λ (o : {cycle.type(part.held)}). {cycle.shown(part.held, 'o')}"
         done = f"λ (o : {cycle.type(part.held)}). {full} ({cycle.shown(part.held, 'o')})"
         one = f"plain.{OWN[part.held][2]}"
-        lets, seen = "", "c.remove_voids.ensures"
+        some, none = c.arm("Some"), c.of(goals.DEFAULT).of("is")
+        lets, seen = "", CALL.ensures()
         if cycle.table.by_name[part.item].is_spanned:
-            lets = ("    let x = c.in-Some.node in\n    let y = record x { node = record x.node "
-                    "{ value = c.remove_voids.new.self } } in\n"
+            lets = (f"    let x = {some.of('node')} in\n"
+                    "    let y = record x { node = record x.node "
+                    f"{{ value = {CALL.new('self')} }} }} in\n"
                     f"    let full : {view} y ≡ full_node ({view} x) = search rules in\n")
             seen = "full"
-        goal = f"{name}-returns-in-Some"
-        yield (f"pub {goal} : goal.{goal}\n{goal} t c =\n{lets}    ap {one} {seen} ∙ "
-               f"sym (ap ({done}) c.in-Some.is)\n")
-        goal = f"{name}-returns-in_default"
-        yield (f"pub {goal} : goal.{goal}\n{goal} t c = ap ({whole}) c.in_default.is ∙ "
-               f"sym (ap ({done}) c.in_default.is)\n")
+        yield proof(goals.returns(name, goals.arm("Some")), f"\n{lets}    ap {one} {seen} ∙ "
+                    f"sym (ap ({done}) {some.of('is')})")
+        yield proof(goals.returns(name, goals.DEFAULT),
+                    f" ap ({whole}) {none} ∙ sym (ap ({done}) {none})")
 
     def listed(self, part, name, view):
         """That a list is without its empty statements: one item more, and all."""
         is_spanned = self.cycle.table.by_name[part.item].is_spanned
         item = "full_node" if is_spanned else self.full.of(part.item)
-        given, x, y = "c.args.part.now.items", "c.index_mut.result.now", "c.remove_voids.new.self"
-        lets, seen = "", "c.remove_voids.ensures"
+        index, items = c.of("index_mut"), c.of("items")
+        given, x, y = f"{c.given('part')}.items", index.of("result.now"), CALL.new("self")
+        done, before = items.of("part.items"), items.of("invariant")
+        lets, seen = "", CALL.ensures()
         if is_spanned:
             y = f"(record {x} {{ node = record {x}.node {{ value = {y} }} }})"
             lets = f"    let seen : {view} {y} ≡ {item} ({view} {x}) = search rules in\n"
             seen = "seen"
-        goal = f"{name}-items-preserved"
-        yield (f"pub {goal} : goal.{goal}\n{goal} t c =\n{lets}"
-               f"    next_done {view} {bracketed(item)} c.items.part.items {given} c.items.i "
-               f"{x} {y} (search rules) c.index_mut.ensures.value {seen} c.items.invariant\n")
-        all_done = (f"all_done {view} {bracketed(item)} c.items.part.items {given} "
-                    "c.items.invariant.0.0 (λ k d lt. c.items.invariant.1 k d (search rules))")
+        yield proof(goals.preserved(name, "items"), f"\n{lets}"
+                    f"    next_done {view} {bracketed(item)} {done} {given} {items.of('i')} "
+                    f"{x} {y} (search rules) {index.ensures('value')} {seen} {before}")
+        all_done = (f"all_done {view} {bracketed(item)} {done} {given} "
+                    f"{before}.0.0 (λ k d lt. {before}.1 k d (search rules))")
         if is_spanned:
             kept = ("filter_from_retain _ _ (λ p x b q called. search rules) _ _ _ "
-                    "c.retain.ensures.filtered")
-            proof = (f"ap {self.cycle.seen(part.held, '').strip()} ({kept}) ∙ "
-                     f"list_full c.items.part.items {given} ({all_done})")
+                    f"{c.of('retain').ensures('filtered')}")
+            whole = (f"ap {self.cycle.seen(part.held, '').strip()} ({kept}) ∙ "
+                     f"list_full {done} {given} ({all_done})")
         else:
-            proof = (f"ap {self.cycle.made_of(part.held)} ({all_done}) ∙ "
+            whole = (f"ap {self.cycle.made_of(part.held)} ({all_done}) ∙ "
                      f"{self.cycle.stem(part.held)}_full (map {view} {given})")
-        goal = f"{name}-returns"
-        yield f"pub {goal} : goal.{goal}\n{goal} t c =\n    {proof}\n"
+        yield proof(goals.returns(name), f"\n    {whole}")
 
     def invariants(self):
         """The invariants of the loops: what is done so far."""
         lines = []
         for part in filter(lambda it: it.is_list, self.code.own):
-            name = f"voids_nodes::remove_from_{self.cycle.stem(part.held)}-items"
+            name = f"voids_nodes::remove_from_{self.cycle.stem(part.held)}"
             is_spanned = self.cycle.table.by_name[part.item].is_spanned
             item = "full_node" if is_spanned else self.full.of(part.item)
-            lines += ["", f"abbrev pub invariant-{name} : goal.invariant-{name}",
-                      f"invariant-{name} l = goal.unvisited-{name} l × Done "
+            said = goals.invariant(name, "items")
+            lines += ["", f"abbrev pub {said} : goal.{said}",
+                      f"{said} l = goal.{goals.unvisited(name, 'items')} l × Done "
                       f"{self.cycle.view(part.item)} {bracketed(item)} l.part.items "
                       "l.initial.part.items l.i"]
         body = "\n".join([*lines, ""])
@@ -308,7 +314,3 @@ def main():
     (CRATE / "src/voids_nodes.rt").write_text(code.text())
     (proofs / "Answers.antt").write_text(answers.text())
     (proofs / "Invariants.antt").write_text(answers.invariants())
-
-
-if __name__ == "__main__":
-    main()

@@ -1,19 +1,18 @@
-#!/usr/bin/env python3
 """Writes the enums of words of wgsl_tree_words, with the words that they are read from and printed
 as, what they are as plain data, and the words of wgsl_tree_packed.
-
-Run it at the top of the repository, and `rt fmt` in the crates that it writes after it:
-
-    tools/tables/tree_words.py
-
-It reads crates/wgsl_model/nodes. The prover checks that the words are those of the definitions.
 """
 import re
 from pathlib import Path
 
+import inputs
 from node_table import TABLE, Table, snake
 from tree_codes import plain_doc
 
+READS = (inputs.NODES,)
+WRITES = ("crates/wgsl_tree_words/src/words_nodes.rt",
+          "crates/wgsl_tree_words/specs/ViewNodes.antt", "crates/wgsl_tree_packed/src/words.rt")
+
+WRITTEN = f"Written by tools/tables/tree_words.py from {TABLE}"
 CRATE = Path("crates/wgsl_tree_words")
 MODULE = "words_nodes"
 PACKED = Path("crates/wgsl_tree_packed/src/words.rt")
@@ -77,7 +76,7 @@ def display(kind):
 
 def code(kinds):
     """The file of the enums."""
-    lines = [f"//! Written by tools/tables/tree_words.py from {TABLE}: operators, and words.",
+    lines = [f"//! {WRITTEN}: operators, and words.",
              "",
              "ghost use Rattle.std.specs.Prelude.{◌≡◌, Some, MatchResult};",
              "ghost use Rattle.wgsl_model.specs.Trees.NamedValues as plain;"]
@@ -101,7 +100,7 @@ def views(kinds):
         lines += ["", f"abbrev pub {view} : {kind.name} → {plain}.{kind.name}"]
         lines += [f"{view} {stem(kind)}.{name} = {plain}.{snake(name)}" for name, _ in kind.parts]
     return "\n".join([
-        f"-- Written by tools/tables/tree_words.py from {TABLE}: operators and values as plain data.",
+        f"-- {WRITTEN}: operators and values as plain data.",
         "use Rattle.wgsl_model.specs.Trees.NamedValues as plain",
         "use Rattle.wgsl_model.specs.Trees.Operators as plain_operator", *uses, *lines, ""])
 
@@ -132,7 +131,7 @@ def packed_word(kind):
 def packed(kinds):
     """The file of the words of packed forms: of named values, then of operators."""
     return "\n".join([
-        f"//! Written by tools/tables/tree_words.py from {TABLE}: words, texts of operators.",
+        f"//! {WRITTEN}: words, texts of operators.",
         "", *packed_uses(kinds),
         *(line for kind in sorted(kinds, key=is_operator) for line in packed_word(kind))])
 
@@ -142,7 +141,3 @@ def main():
     (CRATE / f"src/{MODULE}.rt").write_text(code(kinds))
     (CRATE / "specs/ViewNodes.antt").write_text(views(kinds))
     PACKED.write_text(packed(kinds))
-
-
-if __name__ == "__main__":
-    main()

@@ -1,18 +1,16 @@
-#!/usr/bin/env python3
 """Writes the table of keywords and reserved words of the scanner, with their number, and the two
 tables of bytes that lead from a word to the only place in it where the word can be.
 
-Run it at the top of the repository, and then `rt fmt` in crates/wgsl_lex_scanner:
-
-    tools/tables/word_table.py
-
-It reads the words from crates/wgsl_model/tokens. Nothing rests on it: the prover checks that each
-word is at its place, and that each entry is what it says.
+The prover checks that each word is at its place. The places are searched for, not written.
 """
 from collections import defaultdict
 from pathlib import Path
 
+import inputs
 from token_table import Table
+
+READS = (inputs.TOKENS,)
+WRITES = ("crates/wgsl_lex_scanner/src/word_table.rt",)
 
 WRITTEN = Path("crates/wgsl_lex_scanner/src/word_table.rt")
 
@@ -87,7 +85,3 @@ def main():
     text = WRITTEN.read_text()
     begin, end = text.index(BEGIN), text.index(END)
     WRITTEN.write_text(text[:begin] + written(entries) + text[end:])
-
-
-if __name__ == "__main__":
-    main()
