@@ -21,7 +21,7 @@ EDITED = "(panel) => document.querySelector(`#${panel} .CodeMirror`).CodeMirror.
 TEXT = "(selector) => document.querySelector(selector).textContent.trim()"
 TEXTS = """(selector) => [...document.querySelectorAll(selector)]
     .map((it) => it.textContent.trim())"""
-FOCUSED = "() => document.activeElement.id || document.activeElement.textContent"
+FOCUSED = "() => document.activeElement.id || document.activeElement.tagName"
 TABS = """() => [...document.querySelectorAll('[role=tab]')].map((tab) => [
     tab.id, tab.ariaSelected, tab.tabIndex,
     document.getElementById(tab.getAttribute('aria-controls')).hidden])"""
