@@ -7,6 +7,8 @@ import data from './packed.js';
 const numbers = new Map(data.rules.map((rule, number) => [rule.name, number]));
 const sorts = new Map();
 const NOTHING = numbers.get('nothing');
+/** The rule of a node without a rule of its own, where it is by itself, as where it ends a list. */
+const NODE = numbers.get('node');
 
 /** A text. */
 class TextSort {
@@ -443,6 +445,7 @@ export function packed(node) {
   const sort = wholeOf(node?.type);
   if (sort === undefined) throw new TypeError(`${node?.type ?? node} is no node`);
   const to = new Writer();
+  if (sort.ruleless !== undefined) to.rule(NODE);
   sort.write(to, node);
   to.run();
   return to.bytes.slice(0, to.size);
