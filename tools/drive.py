@@ -111,7 +111,8 @@ class Page:
         if asks:
             self.command("session.new", capabilities={})
         self.command("session.subscribe", events=["network.beforeRequestSent", "log.entryAdded"])
-        self.context = self.command("browsingContext.getTree")["contexts"][0]["context"]
+        # Firefox gives its first window no focus
+        self.context = self.command("browsingContext.create", type="window")["context"]
 
     def command(self, method, **params):
         self.number += 1
@@ -172,7 +173,8 @@ class Page:
         """Clicks into an element, near its corner if it is large, as it may be wider than the page."""
         place = self.run("""(selector) => {
             const found = document.querySelector(selector);
-            found.scrollIntoView({ block: 'nearest' });
+            const isSeen = ({ top, bottom }) => top >= 0 && bottom <= innerHeight;
+            if (!isSeen(found.getBoundingClientRect())) found.scrollIntoView({ block: 'nearest' });
             const box = found.getBoundingClientRect();
             const inside = (size) => Math.min(size / 2, 24);
             return [box.x + inside(box.width), box.y + inside(box.height)].map(Math.round);

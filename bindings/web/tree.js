@@ -444,6 +444,8 @@ export function treeOf(bytes, offsets, kind = 'TranslationUnit') {
 export function packed(node) {
   const sort = wholeOf(node?.type);
   if (sort === undefined) throw new TypeError(`${node?.type ?? node} is no node`);
+  // a node without a rule is what is at its place, which by itself has no span
+  if (sort.ruleless !== undefined) return packed(node[sort.ruleless.places[0].field]);
   const to = new Writer();
   if (sort.ruleless !== undefined) to.rule(NODE);
   sort.write(to, node);
