@@ -7,8 +7,6 @@ import data from './packed.js';
 const numbers = new Map(data.rules.map((rule, number) => [rule.name, number]));
 const sorts = new Map();
 const NOTHING = numbers.get('nothing');
-/** The rule of a node without a rule of its own, where it is by itself, as where it ends a list. */
-const NODE = numbers.get('node');
 
 /** A text. */
 class TextSort {
@@ -447,7 +445,6 @@ export function packed(node) {
   // a node without a rule is what is at its place, which by itself has no span
   if (sort.ruleless !== undefined) return packed(node[sort.ruleless.places[0].field]);
   const to = new Writer();
-  if (sort.ruleless !== undefined) to.rule(NODE);
   sort.write(to, node);
   to.run();
   return to.bytes.slice(0, to.size);
