@@ -1,6 +1,8 @@
 // A packed form as bytes: read from its front, or written at its end.
 
 const HIGH = 2 ** 32;
+/** Half of a surrogate pair, which has no UTF-8. */
+const HALF = /\p{Surrogate}/u;
 
 /** Returns the error of bytes that are not a packed form. */
 export function notPacked(what) {
@@ -106,6 +108,7 @@ export class Writer extends Steps {
   }
 
   text(text) {
+    if (HALF.test(text)) throw new TypeError('a text has half of a surrogate pair');
     const start = this.make(8);
     // a UTF-16 unit takes at most three bytes
     const at = this.make(3 * text.length);
