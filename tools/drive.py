@@ -170,7 +170,7 @@ class Page:
         self.actions(type="key", id="keys", actions=pressed)
 
     def click(self, selector):
-        """Clicks into an element, near its corner if it is large, as it may be wider than the page."""
+        """Clicks into an element, near its corner if it is large: it may be wider than the page."""
         place = self.run("""(selector) => {
             const found = document.querySelector(selector);
             const isSeen = ({ top, bottom }) => top >= 0 && bottom <= innerHeight;
@@ -182,7 +182,8 @@ class Page:
         x, y = place
         down, up = ({"type": f"pointer{it}", "button": 0} for it in ("Down", "Up"))
         self.actions(type="pointer", id="mouse", actions=[
-            {"type": "pointerMove", "x": x, "y": y}, down, {"type": "pause", "duration": CLICK}, up])
+            {"type": "pointerMove", "x": x, "y": y}, down, {"type": "pause", "duration": CLICK},
+            up])
 
     def scheme(self, theme):
         """Has the system's colours be light or dark."""

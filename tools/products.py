@@ -1,4 +1,4 @@
-"""What tools/build makes in build/: the programs, and the static library for C and two processors."""
+"""What tools/build makes in build/: programs, and static libraries for C and two processors."""
 from typing import NamedTuple
 
 import crates
