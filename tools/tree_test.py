@@ -28,9 +28,9 @@ DEEPEST = 50_000
 NUMBER = re.compile(r'("(?:AbstractInt|I32|U32)":)(-?\d+)')
 
 
-# how tools/tree_test.ts is checked
+# how tools/tree_test.mts is checked
 TSC = ["tsc", "--noEmit", "--strict", "--target", "es2022", "--module", "nodenext",
-       "--moduleResolution", "nodenext", TOP / "tools" / "tree_test.ts"]
+       "--moduleResolution", "nodenext", TOP / "tools" / "tree_test.mts"]
 
 
 def check_types():

@@ -215,8 +215,7 @@ def in_copy(body, folder, names):
     path = body.hunks[0].file
     lines = (folder / path).read_text().split("\n")
     for first, last, fits in functions_of(path, "\n".join(lines), names):
-        is_within = all(path == it.file and first <= it.first and it.last < last
-                        for it in body.hunks)
+        is_within = all(path == it.file and first <= it.first and it.last < last for it in body.hunks)
         if is_within and fits == body.functions and is_free(lines, first):
             copy = lines[first:last]
             for hunk in sorted(body.hunks, reverse=True):
