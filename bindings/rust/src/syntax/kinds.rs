@@ -2,26 +2,32 @@
 
 use super::node_enums::VARIANTS;
 use super::TranslationUnit;
+use crate::visit::{Accept, Visit};
 use std::cell::RefCell;
 use std::collections::BTreeSet;
 
 thread_local! {
-    /// The variants that were compared, each after its enum.
-    static WRITTEN: RefCell<BTreeSet<(&'static str, &'static str)>> = RefCell::default();
+    /// The variants that were visited, each after its enum.
+    static VISITED: RefCell<BTreeSet<(&'static str, &'static str)>> = RefCell::default();
 }
 
-/// Notes that a variant was compared.
+/// Notes that a variant was visited.
 pub fn note(kind: &'static str, variant: &'static str) {
-    WRITTEN.with_borrow_mut(|written| written.insert((kind, variant)));
+    VISITED.with_borrow_mut(|visited| visited.insert((kind, variant)));
 }
 
 /// A text with each kind of node.
 const EVERY_KIND: &str = include_str!("../../tests/every_kind.wgsl");
 
+/// Visits each node, and does nothing.
+struct Nothing;
+
+impl Visit<'_> for Nothing {}
+
 #[test]
 fn one_text_has_every_variant() {
     let unit: TranslationUnit = EVERY_KIND.parse().expect("a module");
-    assert!(unit == unit.clone());
+    unit.accept(&mut Nothing);
     let all = VARIANTS.iter().copied().collect();
-    WRITTEN.with_borrow(|written| assert_eq!(*written, all));
+    VISITED.with_borrow(|visited| assert_eq!(*visited, all));
 }

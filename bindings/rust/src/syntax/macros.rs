@@ -77,8 +77,6 @@ macro_rules! enums {
             fn code<'t>(&'t self, code: &mut Code<'t>) {
                 match self {$(
                     $name::$variant $((either!(held, $held)))? => {
-                        #[cfg(test)]
-                        super::kinds::note(stringify!($name), stringify!($variant));
                         code.text(stringify!($variant));
                         $(either!(held.code(code), $held);)?
                     }
@@ -98,6 +96,8 @@ macro_rules! enums {
             fn walk<'t, V: Visit<'t> + ?Sized>(&'t self, visitor: &mut V) {
                 match self {$(
                     $name::$variant $((either!(held, $held)))? => {
+                        #[cfg(test)]
+                        super::kinds::note(stringify!($name), stringify!($variant));
                         $(either!(held.accept(visitor), $held);)?
                     }
                 )*}
