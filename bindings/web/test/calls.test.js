@@ -153,7 +153,7 @@ test('a text that nests too deep is an error, and the next call works', () => {
 });
 
 test('what nests in texts of people is not too deep', () => {
-  const nest = (open, close, inner) => `${open.repeat(250)}${inner}${close.repeat(250)}`;
+  const nest = (open, close, inner) => `${open.repeat(200)}${inner}${close.repeat(200)}`;
   const texts = [`const a = ${nest('(', ')', '1')};`, `const a = ${nest('b[', ']', '1')};`,
     `fn f() ${nest('{', '}', '')}`, `fn f() {${nest('if a {', '}', '')}}`,
     `var<private> a: ${nest('b<', '>', 'c')};`, `const a = ${nest('!', '', 'b')};`];
