@@ -67,7 +67,7 @@ def process(words, folder, pattern):
 
 
 def posted(address, value):
-    """What a driver answers."""
+    """What a driver returns."""
     asked = urllib.request.Request(address, json.dumps(value).encode(),
                                    {"Content-Type": "application/json"})
     with urllib.request.urlopen(asked, timeout=PATIENCE) as found:

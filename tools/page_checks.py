@@ -115,14 +115,15 @@ def check_tabs(page):
         raise Wrong(f"the gzipped sizes are {sizes}")
     expect(page, "the names", ["size", "a"], TEXTS, "#minified dt, #minified dd")
     page.click("#tab-tokens")
-    expect(page, "the tokens", ["const", "size", "=", "0x1f", ";", "// thirty-one"],
-           TEXTS, "#tokens tbody td:nth-child(3)")
+    tokens = ["const", "size", "=", "0x1f", ";", "// thirty-one"]
+    shown = "#tokens tbody td:nth-child(3)"
+    expect(page, "the tokens", tokens, TEXTS, shown)
     page.click("#tokens [name=comments]")
-    expect(page, "the tokens without comments", ["const", "size", "=", "0x1f", ";"],
-           TEXTS, "#tokens tbody td:nth-child(3)")
+    expect(page, "the tokens without comments", tokens[:-1], TEXTS, shown)
     page.click("#tokens tbody tr:nth-child(3)")
     expect(page, "what a token marks", "size", MARKED)
     page.click("#tokens [name=comments]")
+    expect(page, "the tokens with comments again", tokens, TEXTS, shown)
 
 
 def check_tree(page):
@@ -152,7 +153,8 @@ def check_tree(page):
 
 
 def check_keyboard(page):
-    """Tabs are chosen by arrow keys, Home and End, and Tab leaves the editor."""
+    """Tabs are chosen by arrow keys, Home and End, and Tab leaves the editor, also from the button
+    to a fault as it hides."""
     page.click("#tab-formatted")
     for key, chosen in [("Right", 1), ("Right", 2), ("Left", 1), ("End", 4), ("Right", 0),
                         ("Left", 4), ("Home", 0)]:
@@ -165,6 +167,12 @@ def check_keyboard(page):
     page.keys("Tab")
     expect(page, "what has the focus after the editor", "tab-formatted", FOCUSED)
     expect(page, "the source after Tab", "const size = 1;", EDITED, "source")
+    write(page, "fn f() {")
+    expect(page, "what is underlined", "{", UNDERLINED)
+    page.keys("Tab")
+    expect(page, "what has the focus after the editor", "to-fault", FOCUSED)
+    page.run(SET, "fn f() {}")
+    expect(page, "what has the focus after the button", "tab-formatted", FOCUSED)
     page.click("#about-button")
     expect(page, "whether the dialog is open", True, "() => document.querySelector('#about').open")
     page.keys("Escape")

@@ -29,7 +29,7 @@ const PACKED = 28;
 const TOKEN = 6;
 const PLACE = 4;
 
-/** The fault of a text that an answer reports, by its texts, after each of which is a byte 0. */
+/** The fault that a call returned of a text, by its texts, after each of which is a byte 0. */
 function faultOf(source, said, texts = textOf(said.bytes)) {
   const [message, ...more] = texts.split('\0');
   const place = { start: source.unit(said.start), end: source.unit(said.end) };
@@ -37,8 +37,8 @@ function faultOf(source, said, texts = textOf(said.bytes)) {
   return WgslError.numbered(said.kind, message, { source: source.text, ...place, expected });
 }
 
-/** Makes a call on a text that writes bytes, and returns its answer; a fault is thrown. */
-function answered(name, source, room, before) {
+/** What a call on a text that writes bytes returns; a fault is thrown. */
+function returned(name, source, room, before) {
   const said = written(name, source.bytes, Math.max(LEAST_ROOM, room), { before });
   if (said.status === REFUSED) throw faultOf(source, said);
   return said;
@@ -72,13 +72,13 @@ export function tidy(text, options) {
   const layout = layoutOf(options);
   const source = new Source(text);
   const before = (blocks) => [BigInt(blocks.takeWith(layout))];
-  return textOf(answered('tidy', source, 2 * source.bytes.length, before).bytes);
+  return textOf(returned('tidy', source, 2 * source.bytes.length, before).bytes);
 }
 
 /** Returns the canonical text of a module, without comments. */
 export function format(text) {
   const source = new Source(text);
-  return textOf(answered('format', source, 2 * source.bytes.length).bytes);
+  return textOf(returned('format', source, 2 * source.bytes.length).bytes);
 }
 
 /** Returns a short text of a module, and which names have new ones. */
@@ -87,14 +87,14 @@ export function minify(text, { names, keep = [] } = {}) {
   const kept = new Source(keep.join('\n')).bytes;
   const source = new Source(text);
   const before = (blocks) => [which, BigInt(blocks.takeWith(kept)), BigInt(kept.length)];
-  const said = answered('minify', source, source.bytes.length, before);
+  const said = returned('minify', source, source.bytes.length, before);
   const [short, map] = [said.bytes.subarray(0, said.start), said.bytes.subarray(said.start)];
   return { text: textOf(short), names: JSON.parse(textOf(map)) };
 }
 
 /** Throws the fault of a text that is not a module. */
 export function check(text) {
-  answered('check', new Source(text), 0);
+  returned('check', new Source(text), 0);
 }
 
 /** Items of numbers of 32 bits, of which the last two of 64 bits are a place. */
@@ -147,7 +147,7 @@ export function nesting(text) {
 export function parse(text, kind) {
   const number = chosen(TREES, 'kind', kind, 'TranslationUnit');
   const source = new Source(text);
-  const said = answered('packed_tree', source, PACKED * source.bytes.length, () => [number]);
+  const said = returned('packed_tree', source, PACKED * source.bytes.length, () => [number]);
   return withStack(() => treeOf(said.bytes, source.offsets(), kind));
 }
 

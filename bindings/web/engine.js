@@ -108,7 +108,8 @@ function numbersAt(place, count) {
   return Array.from({ length: count }, (_, at) => halves[2 * at]);
 }
 
-function answerAt(place, status) {
+/** What a call returned: its status, and its numbers at a place of memory. */
+function returnedAt(place, status) {
   const numbers = numbersAt(place, ANSWER.length);
   return { status, ...Object.fromEntries(ANSWER.map((name, at) => [name, numbers[at]])) };
 }
@@ -129,8 +130,8 @@ function status(name, before, given, buffer, answer) {
 
 /**
  * Makes a call that writes items of a size in bytes into a buffer, again with a larger one if that
- * was too small, and returns the answer and the bytes that were written. `before` makes what the
- * call takes before the bytes.
+ * was too small, and returns the status and the numbers of the call and the bytes that it wrote.
+ * `before` makes what the call takes before the bytes.
  */
 export function written(name, bytes, count, { item = 1, before = () => [] } = {}) {
   return withBlocks((blocks) => {
@@ -139,7 +140,7 @@ export function written(name, bytes, count, { item = 1, before = () => [] } = {}
     const answer = blocks.take(ANSWER.length * NUMBER);
     for (let room = count; ; ) {
       const buffer = blocks.take(room * item);
-      const said = answerAt(answer, status(name, first, given, [buffer, room], answer));
+      const said = returnedAt(answer, status(name, first, given, [buffer, room], answer));
       if (said.status === OUT_OF_MEMORY) throw outOfMemory();
       if (said.status !== TOO_SMALL && said.size <= room) {
         const size = said.size * item;
@@ -156,7 +157,7 @@ export function number(name, bytes) {
   return withBlocks((blocks) => {
     const answer = blocks.take(ANSWER.length * NUMBER);
     const given = [blocks.takeWith(bytes), bytes.length];
-    const said = answerAt(answer, status(name, [], given, [], answer));
+    const said = returnedAt(answer, status(name, [], given, [], answer));
     if (said.status === OUT_OF_MEMORY) throw outOfMemory();
     return said.size;
   });

@@ -46,8 +46,15 @@ function showVerdict(text, fault) {
   const place = fault?.place;
   const told = [place && `${place.line}:${place.column}: `, fault?.message ?? 'A module of WGSL'];
   at('verdict').replaceChildren(...withCode(told.filter(Boolean).join('')));
-  at('to-fault').hidden = !place;
+  showButton(Boolean(place));
   at('source-size').textContent = bytes(new Blob([text]).size);
+}
+
+/** Shows or hides the button to the fault, from which the focus goes on to the tabs as it hides. */
+function showButton(isShown) {
+  const button = at('to-fault');
+  if (!isShown && button === document.activeElement) tabs.focus();
+  button.hidden = !isShown;
 }
 
 /** The parts of a message; those in backquotes are code. */

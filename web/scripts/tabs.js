@@ -14,8 +14,16 @@ export class Tabs {
     list.addEventListener('keydown', (event) => this.#move(event));
   }
 
+  get #chosenTab() {
+    return this.tabs.find((tab) => tab.ariaSelected === 'true');
+  }
+
   get chosen() {
-    return this.tabs.find((tab) => tab.ariaSelected === 'true').getAttribute('aria-controls');
+    return this.#chosenTab.getAttribute('aria-controls');
+  }
+
+  focus() {
+    this.#chosenTab.focus();
   }
 
   /** Shows the panel with the id `name`; any other name changes nothing. */

@@ -28,8 +28,8 @@ export function connectTools(source, fragment) {
 }
 
 async function openExample(source, name) {
-  const answer = await fetch(`examples/${name}.wgsl`);
-  if (answer.ok) source.text = await answer.text();
+  const response = await fetch(`examples/${name}.wgsl`);
+  if (response.ok) source.text = await response.text();
 }
 
 /** Copies a text, and says on the button for a while whether it could. */
