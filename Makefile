@@ -55,8 +55,8 @@ tables:
 # version of VERSION; each file of a crate has to be in the layout of rt fmt, and no line of a
 # definition or a proof may be too long; what tools write has to be up to date; each wrong body has
 # to be one that can be applied, and on record. Then all rows and tests are run over programs as
-# `rt try` compiles them, with checks of each access; and if `make web` has been run, those of the
-# package for JavaScript.
+# `rt try` compiles them, with checks of each access; if `make web` has been run, those of the
+# package for JavaScript; and if `make build` has, those of what USE says of editors and of CI.
 test:
 	@test "$$(cat HANDLES)" = "Handles allowed: none." \
 	    || { echo "Failed: the file HANDLES."; exit 1; }
@@ -70,6 +70,8 @@ test:
 	@tools/run_tests || { echo "Failed: tools/run_tests, as the lines above say."; exit 1; }
 	@test ! -d build/web || tools/web_test \
 	    || { echo "Failed: tools/web_test, as the lines above say."; exit 1; }
+	@test ! -x build/wgsltidy || tools/editors_test \
+	    || { echo "Failed: tools/editors_test, as the lines above say."; exit 1; }
 	@echo "All passed."
 
 # Every proof, the wrong bodies that tools/prove_all tries, and `make programs` over what was
