@@ -31,9 +31,9 @@ class Refused(Exception):
     """A command that the browser did not do, or a script that threw."""
 
 
-def missing():
-    """The packages that are needed and not there."""
-    return sorted({package for programs in NEEDED.values() for program, package in programs.items()
+def missing(browsers):
+    """The packages that these browsers need and that are not there."""
+    return sorted({package for name in browsers for program, package in NEEDED[name].items()
                    if not shutil.which(program)})
 
 

@@ -3,8 +3,8 @@
 import { wgsl } from '../package.js';
 import { CHECKS } from '../rows.js';
 
-/** So often a call is made; the shortest time counts. */
-const TIMES = 5;
+/** The text of which calls are measured. */
+let text = '';
 
 /** For how many milliseconds the module is loaded and compiled. */
 export async function start() {
@@ -29,12 +29,14 @@ export async function runRows(address) {
   return { counts, failures };
 }
 
-/** How many milliseconds a call takes with a text. */
-export function timeOf(name, text) {
-  const times = Array.from({ length: TIMES }, () => {
-    const started = performance.now();
-    wgsl[name](text);
-    return performance.now() - started;
-  });
-  return Math.min(...times);
+/** Takes a text of which calls are measured. */
+export function take(given) {
+  text = given;
+}
+
+/** How many milliseconds a call takes with that text. */
+export function timeOf(name) {
+  const started = performance.now();
+  wgsl[name](text);
+  return performance.now() - started;
 }
