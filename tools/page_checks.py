@@ -28,6 +28,18 @@ TABS = """() => [...document.querySelectorAll('[role=tab]')].map((tab) => [
 MARKED = """() => [...document.querySelectorAll('#source .chosen')]
     .map((it) => it.textContent).join('')"""
 SET = """(text) => { document.querySelector('#source .CodeMirror').CodeMirror.setValue(text); }"""
+# has what is fetched from an address with a name come late
+LATE = """(name) => {
+    const before = fetch;
+    globalThis.fetch = async (address) => {
+        const response = await before(address);
+        if (address.includes(name)) {
+            await new Promise((done) => setTimeout(done, 500));
+            setTimeout(() => { globalThis.came = true; }, 200);
+        }
+        return response;
+    };
+}"""
 PAPER = "() => getComputedStyle(document.body).backgroundColor"
 NAMES = ("formatted", "canonical", "minified", "tree", "tokens")
 
@@ -68,7 +80,8 @@ def choose(page, selector, value):
 
 
 def check_examples(page):
-    """Each example is formatted as examples/tidied has it."""
+    """Each example is formatted as examples/tidied has it, and the one that is chosen last is shown,
+    also where the text of another comes after its own."""
     expect(page, "the verdict", "A module of WGSL", VERDICT)
     names = page.run("() => [...document.querySelector('#example').options].map((it) => it.value)")
     if sorted(it for it in names if it) != sorted(it.stem for it in TIDIED.glob("*.wgsl")):
@@ -77,6 +90,12 @@ def check_examples(page):
         choose(page, "#example", name)
         wanted = (TIDIED / f"{name}.wgsl").read_text()
         expect(page, f"the formatted {name}", wanted, EDITED, "formatted")
+    page.run(LATE, "waves")
+    choose(page, "#example", "waves")
+    choose(page, "#example", "quads")
+    page.until("() => globalThis.came")
+    wanted = (TOP / "examples" / "commented" / "quads.wgsl").read_text()
+    expect(page, "the source after two choices", wanted, EDITED, "source")
 
 
 def check_typing(page):

@@ -5,6 +5,9 @@ const at = (id) => document.getElementById(id);
 /** For so long a button says what it did. */
 const SAID = 1600;
 
+/** The example that was chosen last. */
+let last;
+
 /** Connects the buttons; `fragment` returns that of a link to what is shown. */
 export function connectTools(source, fragment) {
   at('example').addEventListener('change', async ({ target }) => {
@@ -27,9 +30,12 @@ export function connectTools(source, fragment) {
   return { copy, openExample: (name) => openExample(source, name) };
 }
 
+/** Shows an example, unless another is chosen before its text is there. */
 async function openExample(source, name) {
+  last = name;
   const response = await fetch(`examples/${name}.wgsl`);
-  if (response.ok) source.text = await response.text();
+  const text = await response.text();
+  if (response.ok && last === name) source.text = text;
 }
 
 /** Copies a text, and says on the button for a while whether it could. */
