@@ -80,8 +80,8 @@ def choose(page, selector, value):
 
 
 def check_examples(page):
-    """Each example is formatted as examples/tidied has it, and the one that is chosen last is shown,
-    also where the text of another comes after its own."""
+    """Each example is formatted as examples/tidied has it, and the last that is chosen is shown,
+    where the text of another comes after its own too."""
     expect(page, "the verdict", "A module of WGSL", VERDICT)
     names = page.run("() => [...document.querySelector('#example').options].map((it) => it.value)")
     if sorted(it for it in names if it) != sorted(it.stem for it in TIDIED.glob("*.wgsl")):
