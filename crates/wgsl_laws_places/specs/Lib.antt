@@ -1,0 +1,3 @@
+-- Rows worked out by hand.
+pub mod RowTokens
+pub mod PlaceRows

@@ -1,0 +1,2 @@
+//! Lemmas on the names of tokens.
+#![tactic(auto)]
