@@ -6,4 +6,6 @@ pub mod Advances
 pub mod Parts
 pub mod Equations
 pub mod Operands
+pub mod Operators
+pub mod Steps
 pub mod Decided

@@ -1,5 +1,6 @@
 pub mod ExpressionLists
 pub mod Advancing
+pub mod Expressions
 pub mod Roles
 pub mod Spans
 pub mod Lists

@@ -12,7 +12,7 @@ ghost use Rattle.wgsl_lex_templates.specs.Findings.{AreRight};
 ghost use Rattle.wgsl_lex_templates.specs.Shortened.{MayReplace};
 ghost use Rattle.wgsl_lex_templates.specs.Readings.{IsOutcome, costs};
 
-use crate::depth::nest_deeper;
+use crate::brackets::OpenBrackets;
 use crate::expression_list::is_expression_list;
 use crate::findings::Finding;
 use crate::kept::{ReadKinds, Rest};
@@ -28,22 +28,22 @@ use wgsl_lex_token::kind::TokenKind;
 /// A number of kinds are no longer few. Fewer are not shortened.
 const FEW_KINDS: usize = 8;
 
-/// Space for the kinds of one list, used again at each, and how deep brackets may nest in it.
+/// Space for the kinds of one list, used again at each.
 #[derive(Drop)]
 pub(crate) struct Scratch {
     kinds: Vec<TokenKind>,
     short: Vec<TokenKind>,
     rests: Vec<Rest>,
-    depth: usize,
+    opened: OpenBrackets,
 }
 
 impl Scratch {
-    pub(crate) fn new(alloc: Global, depth: usize) -> Scratch {
+    pub(crate) fn new(alloc: Global) -> Scratch {
         Scratch {
             kinds: Vec::new(alloc),
             short: Vec::new(alloc),
             rests: Vec::new(alloc),
-            depth,
+            opened: OpenBrackets::new(alloc),
         }
     }
 }
@@ -59,10 +59,8 @@ fn is_list(kept: &ReadKinds, start: usize, scratch: &mut Scratch) -> Result<bool
 {
     scratch.kinds.clear();
     kept.push_kinds(start, kept.len(), &mut scratch.kinds, &mut scratch.rests)?;
-    if nest_deeper(&scratch.kinds, scratch.depth) {
-        return Err(AllocError);
-    }
-    Ok(is_expression_list(&scratch.kinds))
+    let found = is_expression_list(&scratch.kinds, &mut scratch.opened)?;
+    Ok(found)
 }
 
 /// Keeps what was read from a place on in a shorter form, so that the tests of the lists around it
@@ -81,7 +79,12 @@ fn keep_short(kept: &mut ReadKinds, start: usize, scratch: &mut Scratch) -> Resu
         return Ok(());
     }
     let pieces = kept.len() - start;
-    if !shorten(&scratch.kinds, pieces, &mut scratch.short)? {
+    if !shorten(
+        &scratch.kinds,
+        pieces,
+        &mut scratch.short,
+        &mut scratch.opened,
+    )? {
         return Ok(());
     }
     kept.truncate(start);
@@ -120,7 +123,7 @@ pub(crate) fn attempt(
         return Ok(None);
     }
     let start = kept.len();
-    match read(tried, comments, kept, reads, source, after, scratch.depth)? {
+    match read(tried, comments, kept, reads, source, after)? {
         Reading::Around => Ok(Some(Finding::Around)),
         Reading::Within(rest) => Ok(Some(Finding::GoesOn {
             is_list: false,

@@ -1,5 +1,5 @@
 //! Taking the next token.
-#![tactic(auto, unfolding(crate::proofs::Hints::definitions), using(crate::proofs::Hints::lemmas))]
+#![tactic(auto, unfolding(crate::proofs::Hints::of_kinds), using(crate::proofs::Among::among))]
 
 ghost use Rattle.std.specs.Prelude.{◌≡◌, ◌<◌, length, IfSome};
 ghost use Rattle.grammar.specs.Grammar.{is_among};

@@ -151,7 +151,7 @@ fn look_up<'s>(findings: &Findings, source: &'s str, kind: TokenKind, after: &'s
 }
 
 /// Reads what is after a `<`, which is before the text. What was read becomes pieces after the
-/// others. The error is also returned where more brackets than the limit are open at one place.
+/// others.
 pub(crate) fn read<'s>(
     tried: &Tried,
     comments: &mut Comments,
@@ -159,7 +159,6 @@ pub(crate) fn read<'s>(
     reads: &mut u128,
     source: &'s str,
     text: &'s str,
-    limit: usize,
 ) -> Result<Reading<'s>, AllocError>
     requires ends { EndsWith (chars source.now) (chars text.now) }
     requires reads { reads.old + length text.now + 1 < 2 ^ 128 }
@@ -215,9 +214,6 @@ pub(crate) fn read<'s>(
             Turn::Stops => return Ok(Reading::Within(rest)),
             Turn::Refutes => return Ok(Reading::Around),
             Turn::Takes(open) => depth = open,
-        }
-        if depth > limit {
-            return Err(AllocError);
         }
         kept.push(kind)?;
         after_word = is_word(kind);

@@ -5,6 +5,7 @@ ghost use Rattle.wgsl_model.specs.Tokens.ClassTable.{SymParenLeft, SymParenRight
 ghost use Rattle.wgsl_lex_token.specs.View.{classes};
 ghost use Rattle.wgsl_lex_templates.specs.Shortened.{in_parentheses, MayReplace};
 
+use crate::brackets::OpenBrackets;
 use crate::expression_list::{is_expression, is_expression_list};
 use crate::next::take;
 use std::alloc::AllocError;
@@ -45,25 +46,31 @@ fn parenthesized(kinds: &[TokenKind]) -> Option<(&[TokenKind], &[TokenKind])>
 }
 
 /// What may be in parentheses in place of kinds.
-fn content(kinds: &[TokenKind]) -> &[TokenKind]
-    ensures { MayReplace (in_parentheses (classes result.now))
-        (in_parentheses (classes kinds.now)) }
+fn content<'k>(
+    kinds: &'k [TokenKind],
+    opened: &mut OpenBrackets,
+) -> Result<&'k [TokenKind], AllocError>
+    ensures { IfOk result (λ short. MayReplace (in_parentheses (classes short.now))
+        (in_parentheses (classes kinds.now))) }
 {
-    if is_expression(kinds) {
-        return ONE_EXPRESSION;
+    let is_one = is_expression(kinds, opened)?;
+    if is_one {
+        return Ok(ONE_EXPRESSION);
     }
-    if is_expression_list(kinds) {
-        return NOT_ONE_EXPRESSION;
+    let is_list = is_expression_list(kinds, opened)?;
+    if is_list {
+        return Ok(NOT_ONE_EXPRESSION);
     }
-    kinds
+    Ok(kinds)
 }
 
 /// Puts kinds into a list in which the content of parentheses is short, if there are fewer than so
-/// many of them then. The list is overwritten.
+/// many of them then. The lists are overwritten.
 pub(crate) fn shorten(
     kinds: &[TokenKind],
     limit: usize,
     short: &mut Vec<TokenKind>,
+    opened: &mut OpenBrackets,
 ) -> Result<bool, AllocError>
     ensures { IfOk result (λ all. IsTrue all →
         MayReplace (classes short.new.items) (classes kinds.now)) }
@@ -75,8 +82,9 @@ pub(crate) fn shorten(
             return Ok(false);
         }
         if let Some((inner, rest)) = parenthesized(left) {
+            let inside = content(inner, opened)?;
             short.push(TokenKind::SymParenLeft)?;
-            short.extend_from_slice(content(inner))?;
+            short.extend_from_slice(inside)?;
             short.push(TokenKind::SymParenRight)?;
             left = rest;
             continue;

@@ -67,24 +67,10 @@ pub fn discover(alloc: Global, source: &str) -> Result<Templates, AllocError>
     ensures reads { IfOk result (λ found. found.reads ≤ found.attempts * (length source.now + 1)) }
     ensures each { IfOk result (λ found. 2 * length found.lists.spans.items ≤ found.reads) }
 {
-    discover_within(alloc, source, usize::MAX)
-}
-
-/// Finds the template lists as `discover` does, on a stack that grows with a depth: where after a
-/// `<` more than a number of brackets are open at one place of what has to be read, it returns the
-/// error.
-pub fn discover_within(alloc: Global, source: &str, depth: usize) -> Result<Templates, AllocError>
-    ensures lists { IfOk result (λ found.
-        AreLists (width (chars source.now)) found.lists.spans.items (chars source.now)) }
-    ensures attempts { IfOk result (λ found. found.attempts ≤ less_than_signs (chars source.now)) }
-    ensures found { IfOk result (λ found. length found.lists.spans.items ≤ found.attempts) }
-    ensures reads { IfOk result (λ found. found.reads ≤ found.attempts * (length source.now + 1)) }
-    ensures each { IfOk result (λ found. 2 * length found.lists.spans.items ≤ found.reads) }
-{
     let mut tried = Tried::new(alloc);
     let mut comments = Comments::new(alloc);
     let mut kept = ReadKinds::new(alloc);
-    let mut scratch = Scratch::new(alloc, depth);
+    let mut scratch = Scratch::new(alloc);
     let mut attempts = 0usize;
     let mut reads = 0u128;
     let mut left = source;

@@ -10,7 +10,7 @@ use wgsl_lex_scanner::lexeme::Lexeme;
 use wgsl_lex_scanner::scan::{Scanned, place, scan};
 use wgsl_lex_templates::roles::{is_less_than, is_word};
 use wgsl_lex_templates::text::after_first;
-use wgsl_lex_templates::{Templates, discover_within};
+use wgsl_lex_templates::{Templates, discover};
 use wgsl_lex_token::kind::TokenKind;
 use wgsl_lex_token::placed::PlacedToken;
 use wgsl_span::Span;
@@ -66,31 +66,17 @@ impl<'s> TextTokens<'s> {
         ensures { IfOk result (λ tokens.
             IsTokenList (chars source.now) (tokens_left tokens) (ending_left tokens)) }
     {
-        TextTokens::within(alloc, source, usize::MAX)
-    }
-
-    /// Creates the tokens as `new` does, on a stack that grows with a depth: where after a `<` more
-    /// than a number of brackets are open at one place of what has to be read, it returns the
-    /// error.
-    pub fn within(
-        alloc: Global,
-        source: &'s str,
-        depth: usize,
-    ) -> Result<TextTokens<'s>, AllocError>
-        ensures { IfOk result (λ tokens.
-            IsTokenList (chars source.now) (tokens_left tokens) (ending_left tokens)) }
-    {
-        let mut tokens = TextTokens::before(alloc, source, depth)?;
+        let mut tokens = TextTokens::before(alloc, source)?;
         tokens.go_on();
         Ok(tokens)
     }
 
     /// Nothing is next, and the whole source is after it.
-    fn before(alloc: Global, source: &'s str, depth: usize) -> Result<TextTokens<'s>, AllocError>
+    fn before(alloc: Global, source: &'s str) -> Result<TextTokens<'s>, AllocError>
         ensures { IfOk result (λ tokens. (ts : List grammar.Token) (e : Ending) →
             AreAfter tokens ts e → IsTokenList (chars source.now) ts e) }
     {
-        let templates = discover_within(alloc, source, depth)?;
+        let templates = discover(alloc, source)?;
         let room = templates.attempts();
         let ends = Vec::with_capacity(alloc, room)?;
         Ok(TextTokens {

@@ -40,7 +40,7 @@ impl<'s> TokenSource<'s> {
         ensures { IfOk result (λ source. (ts : List grammar.Token) × (ending : Ending) ×
             IsTokenList (chars text.now) ts ending × IsSourceOf source ts ending) }
     {
-        let tokens = TextTokens::within(alloc, text, depth)?;
+        let tokens = TextTokens::new(alloc, text)?;
         Ok(TokenSource::of_tokens(alloc, text, tokens, depth))
     }
 

@@ -1,6 +1,12 @@
 -- What the code takes tokens for.
-use Rattle.std.specs.Prelude.{ℕ, Bool, true, false, List, ◌∷◌, [], ◌==◌, if◌then◌else◌, map}
+use Rattle.std.specs.Prelude.{◌≡◌, ℕ, Bool, true, false, List, ◌∷◌, [], ◌==◌, if◌then◌else◌, map}
+use Rattle.grammar.specs.Tokens.{Token}
+use Rattle.wgsl_model.specs.Faults.Kinds.{span_of_token}
 use Rattle.wgsl_model.specs.Tokens.ClassTable.{SymPeriod}
+use Rattle.wgsl_span.specs.declared.Span.{Span}
+use Rattle.wgsl_span.specs.View.{span_view}
+use Rattle.wgsl_lex_token.specs.declared.kind_table.TokenKind.{TokenKind}
+use Rattle.wgsl_lex_token.specs.View.{class_of_kind}
 use Rattle.wgsl_lexer.specs.TextTokens.{tokens_left}
 use Rattle.wgsl_lexer.specs.declared.text_tokens.TextTokens.{TextTokens}
 use Rattle.wgsl_read_nesting.specs.Nesting.{opens_bracket, closes_bracket, is_operand, may_prefix}
@@ -28,3 +34,8 @@ begins_with_operator (Bracket ∷ opened) = false
 -- the classes of the tokens that are left
 abbrev pub token_classes : TextTokens → List ℕ
 token_classes tokens = map (λ t. t.class) (tokens_left tokens)
+
+-- the first of some tokens is of a kind and at a span, and these are after it
+abbrev pub IsNext : TokenKind → Span → List Token → List Token → Type 0
+IsNext kind span ts left = (t : Token) × (ts ≡ t ∷ left) × (t.class ≡ class_of_kind kind)
+    × (span_view span ≡ span_of_token t)

@@ -1,2 +1,3 @@
 pub mod Nesting
 pub mod Effects
+pub mod Deeper

@@ -1,6 +1,7 @@
 -- What is left after the parts of an operand, and after a whole list.
 use Rattle.std.proofs.Common.{◌≡◌, ℕ, Bool, true, false, cond, ◌||◌, eqb, List, [], ◌∷◌, inl, inr, refl, sym, ap, ap₂, subst, ◌∙◌, arith}
 use Rattle.std.specs.Prelude.{Option, Some, None, ◌==◌, length}
+use Rattle.std.specs.Borrow.{Bor}
 use Rattle.std.proofs.lemmas.Bool.Decides.{eqb_tells}
 use Rattle.grammar.specs.Grammar.{Grammar.symbol, is_among}
 use Rattle.grammar.proofs.Reading.Sets.{cases}
@@ -10,9 +11,9 @@ use Rattle.wgsl_theory_grammar.specs.Tables.{begin_expressions, tables}
 use Rattle.wgsl_theory_grammar.specs.Factored.{FactoredSymbol.of, FactoredSymbol.further, Further.argument_rest, Further.components, Further.template_items}
 use Rattle.wgsl_lex_token.specs.declared.kind_table.TokenKind.{TokenKind}
 use Rattle.wgsl_lex_token.specs.View.{classes}
-use Rattle.wgsl_lex_templates.specs.Advancing.{advances, ◌>>=◌, if_there, is_next, take, take_any, turns, optional_arguments, optional_template_list}
+use Rattle.wgsl_lex_templates.specs.Advancing.{advances, ◌>>=◌, if_there, is_next, take, take_any, turns, optional_arguments, optional_template_list, LeavesKinds}
 use Rattle.wgsl_lex_templates.proofs.Advancing.Rules.{is_whole, literals, whole_list, components_at, primary_expression_at, whole_list_at, whole_rest, whole_rest_at}
-use Rattle.wgsl_lex_templates.proofs.Advancing.Repeats.{turns_are}
+use Rattle.wgsl_lex_templates.proofs.Advancing.Repeats.{Shortens, turns_are}
 use Rattle.wgsl_lex_templates.proofs.Advancing.Advances.{ident_is, none_begins, rule_is, shortens}
 use Rattle.wgsl_lex_templates.proofs.Advancing.Parts.{bind_alike, there_alike, bind_bind, choice_of, same_next, take_is, token_choice_is}
 
@@ -118,6 +119,10 @@ primary_expression_is cs =
     ∙ name_first cs (λ ds. optional_template_list ds >>= optional_arguments)
     (λ ds. advances (of expression) ds >>= take SymParenRight)
 
+-- an expression takes a token
+pub expression_shortens : Shortens (advances (of expression))
+expression_shortens = shortens (symbol (of expression)) refl refl refl
+
 -- ---- a whole list
 whole_end : (cs : List ℕ)
     → is_whole (cond (is_next begin_expressions cs) (advances (of expressions) cs) (Some cs))
@@ -201,3 +206,45 @@ whole_rest_is cs = rest_opened cs ∙ go (take SymComma cs)
         ]
     go None = refl
     go (Some ds) = end_or_list ds
+
+-- ---- a list and its rest, by what the functions leave
+pub some_left : (found : Option (Bor (List TokenKind))) (left : Bor (List TokenKind)) (m : Option (List ℕ))
+    → found ≡ Some left → LeavesKinds found m → m ≡ Some (classes left.now)
+some_left found left m e h = subst (λ (x : Option (Bor (List TokenKind))). LeavesKinds x m) e h
+
+pub none_left : (found : Option (Bor (List TokenKind))) (m : Option (List ℕ))
+    → found ≡ None → LeavesKinds found m → m ≡ None
+none_left found m e h = subst (λ (x : Option (Bor (List TokenKind))). LeavesKinds x m) e h
+
+pub list_begun : (cs ds : List ℕ) → advances (of expression) cs ≡ Some ds → whole_rest ds ≡ whole_list cs
+unfolding whole_list_at
+list_begun cs ds e = sym (whole_list_is cs ∙ ap (λ (m : Option (List ℕ)).
+    elim m as (λ r. Bool) [ None ↦ false | Some ds ↦ whole_rest ds ]) e)
+
+pub none_begun : (cs : List ℕ) → advances (of expression) cs ≡ None → whole_list cs ≡ false
+unfolding whole_list_at
+none_begun cs e = whole_list_is cs ∙ ap (λ (m : Option (List ℕ)).
+    elim m as (λ r. Bool) [ None ↦ false | Some ds ↦ whole_rest ds ]) e
+
+abbrev after_item : List ℕ → Option (List ℕ) → Bool
+after_item ds m = elim m as (λ r. Bool) [ None ↦ is_whole (Some ds) | Some es ↦ whole_rest es ]
+
+abbrev after_comma_in : List ℕ → Option (List ℕ) → Bool
+after_comma_in cs m = elim m as (λ r. Bool) [
+  | None ↦ is_whole (Some cs)
+  | Some ds ↦ after_item ds (advances (of expression) ds)
+]
+
+pub item_read : (cs ds es : List ℕ) → take SymComma cs ≡ Some ds → advances (of expression) ds ≡ Some es
+    → whole_rest es ≡ whole_rest cs
+unfolding whole_rest_at
+item_read cs ds es e f = sym (whole_rest_is cs ∙ ap (after_comma_in cs) e ∙ ap (after_item ds) f)
+
+pub no_item : (cs ds : List ℕ) → take SymComma cs ≡ Some ds → advances (of expression) ds ≡ None
+    → whole_rest cs ≡ is_whole (Some ds)
+unfolding whole_rest_at
+no_item cs ds e f = whole_rest_is cs ∙ ap (after_comma_in cs) e ∙ ap (after_item ds) f
+
+pub no_comma : (cs : List ℕ) → take SymComma cs ≡ None → whole_rest cs ≡ is_whole (Some cs)
+unfolding whole_rest_at
+no_comma cs e = whole_rest_is cs ∙ ap (after_comma_in cs) e

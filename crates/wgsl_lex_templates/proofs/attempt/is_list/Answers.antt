@@ -10,7 +10,7 @@ returns-clause-value c ts e =
     ++ held c.args.kept.now.pieces.items c.args.start c.len.result) c.clear.ensures.items in
     let all = c.in_ok-push_kinds.ensures ∙ emptied
     ∙ ap (held c.args.kept.now.pieces.items c.args.start) c.len.ensures in
-    c.is_expression_list.ensures ts (e ∙ sym all ∙ ap classes (sym c.deref-2.ensures.value))
+    c.in_ok-found.ensures ts (e ∙ sym all ∙ ap classes (sym c.deref.ensures.value))
 
 pub returns-clause-kinds : goal.returns-clause-kinds
 returns-clause-kinds c =

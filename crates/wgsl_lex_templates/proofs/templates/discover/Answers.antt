@@ -15,7 +15,7 @@ use Rattle.wgsl_lex_templates.proofs.TextLists.Listed.{before_all, no_lists}
 use Rattle.wgsl_lex_templates.proofs.Readings.Found.{none_right, right_more}
 use Rattle.wgsl_lex_templates.proofs.Readings.Pieces.{cut_back}
 use Rattle.wgsl_lex_templates.proofs.TextLists.Stepped.{cut, ends_source, told_after, attempts_fit, reads_fit, reads_more, tried_none, tried_found, greater_fits, listed_costs, all_done}
-use Rattle.wgsl_lex_templates.proofs.templates.discover_within.Goals as goal
+use Rattle.wgsl_lex_templates.proofs.templates.discover.Goals as goal
 
 pub characters-init : goal.characters-init
 characters-init c = record {

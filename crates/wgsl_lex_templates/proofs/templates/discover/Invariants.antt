@@ -4,7 +4,7 @@ use denote.Shadow.{shadow}
 use Rattle.wgsl_lex_comments.specs.Comments.{AreComments}
 use Rattle.wgsl_lex_templates.specs.Findings.{AreRight}
 use Rattle.wgsl_lex_templates.proofs.TextLists.Listed.{Done}
-use Rattle.wgsl_lex_templates.proofs.templates.discover_within.Given as goal
+use Rattle.wgsl_lex_templates.proofs.templates.discover.Given as goal
 
 abbrev pub invariant-characters : goal.invariant-characters
 invariant-characters l = record {
