@@ -1,18 +1,18 @@
 -- The lines of a block comment that are passed and written.
 use Rattle.std.specs.Prelude.{codes}
-use Rattle.std.proofs.Common.{◌≡◌, ℕ, zero, suc, ◌==◌, ◌&&◌, ◌||◌, not, Bool, true, false, cond, refl, sym, ap, ap₂, subst, ◌∙◌, List, [], ◌∷◌, ◌++◌, append_assoc, replicate}
-use Rattle.std.proofs.lemmas.Bool.{and_parts, eqb-true, false_from_ne_true, true≢false}
+use Rattle.std.proofs.Common.{◌≡◌, ℕ, zero, suc, ◌==◌, ◌&&◌, Bool, true, false, cond, refl, sym, ap, ap₂, subst, ◌∙◌, List, [], ◌∷◌, ◌++◌, append_assoc, replicate}
+use Rattle.std.proofs.lemmas.Bool.{and_parts, eqb-true, false_from_ne_true}
 use Rattle.wgsl_model.specs.Tokens.Trivia.{first_or_zero}
 use Rattle.wgsl_model_tidy.specs.Shown.{without_returns, is_space, has_stars, with_front, block_shown, shown}
 use Rattle.wgsl_model_tidy.specs.LaidOut.{Gap, broken, indentation, gap_text}
 use Rattle.wgsl_theory_tidy.proofs.Comments.{piece}
-use Rattle.wgsl_theory_tidy.proofs.Kept.ShownTexts.{over_front, space_no_return, kept_before, at_line_end}
+use Rattle.wgsl_theory_tidy.proofs.Kept.ShownTexts.{kept_before}
 use Rattle.wgsl_format_layout.specs.Layouts.{layout_view}
 use Rattle.wgsl_format_layout.specs.Lines.{Adds}
 use Rattle.wgsl_format_layout.specs.Blocks.{IsOneLine, IsFirstLine, HasFront}
 use Rattle.wgsl_format_layout.specs.declared.layout.Layout.{Layout}
 use Rattle.wgsl_format_layout.specs.declared.text.Text.{Text}
-use Rattle.wgsl_format_layout.proofs.Added.{adds_none, adds_as, adds_both}
+use Rattle.wgsl_format_layout.proofs.Added.{adds_as, adds_both}
 
 -- ---- the stars at the front of lines
 
@@ -44,46 +44,6 @@ stars_without_returns (c ∷ cs) begins =
         subst (λ d. has_stars begins (without_returns cs) ≡ has_stars begins (d ∷ cs))
         (sym (eqb-true c 13 both.0)) (stars_at_return begins (without_returns cs) cs both.1 (h begins))
     go false e h = stars_before begins c (without_returns cs) cs h
-
-either : (b : Bool) → (b || true) ≡ true
-either true = refl
-either false = refl
-
-neither_more : (b : Bool) → (b || false) ≡ b
-neither_more true = refl
-neither_more false = refl
-
--- over a character that may come there
-pub stars_on : (begins : Bool) (c : ℕ) (cs : List ℕ) (next : Bool)
-    → (begins && (not (c == 42) && not (is_space c))) ≡ false
-    → next ≡ ((c == 10) || (begins && is_space c)) → has_stars begins (c ∷ cs) ≡ has_stars next cs
-stars_on false c cs next h e = ap (λ b. has_stars b cs) (sym (e ∙ neither_more (c == 10)))
-stars_on true c cs next h e = go (is_space c) (c == 42) refl refl h
-  where
-    go : (s t : Bool) → is_space c ≡ s → (c == 42) ≡ t → (not t && not s) ≡ false
-        → has_stars true (c ∷ cs) ≡ has_stars next cs
-    go true t i j k = rw i (ap (λ b. has_stars b cs) (sym (e ∙ ap (λ b. (c == 10) || b) i ∙ either (c == 10))))
-    go false true i j k =
-        let star : c ≡ 42 = eqb-true c 42 j in
-        let no : next ≡ false = e ∙ ap (λ d. (d == 10) || is_space d) star in
-        rw (star, no) refl
-    go false false i j k = absurd (true≢false k)
-
--- over one that may not
-pub stars_end : (begins : Bool) (c : ℕ) (cs : List ℕ)
-    → (begins && (not (c == 42) && not (is_space c))) ≡ true → has_stars begins (c ∷ cs) ≡ false
-stars_end false c cs h = absurd (true≢false (sym h))
-stars_end true c cs h = go (is_space c) (c == 42) refl refl h
-  where
-    go : (s t : Bool) → is_space c ≡ s → (c == 42) ≡ t → (not t && not s) ≡ true → has_stars true (c ∷ cs) ≡ false
-    go true true i j k = absurd (true≢false (sym k))
-    go true false i j k = absurd (true≢false (sym k))
-    go false true i j k = absurd (true≢false (sym k))
-    go false false i j k = rw (i, j) refl
-
-pub stars_last : (begins : Bool) → has_stars begins [] ≡ not begins
-stars_last true = refl
-stars_last false = refl
 
 -- ---- a line that is passed, up to a rest; after its end a number of CR are before the rest
 
@@ -202,46 +162,12 @@ abbrev pub InFront : List ℕ → List ℕ → Type 0
 InFront text rest = (front : List ℕ)
     → with_front front true (without_returns text) ≡ with_front front true (without_returns rest)
 
-pub front_more : (text rest : List ℕ) (c : ℕ) (after : List ℕ) → InFront text rest
-    → rest ≡ c ∷ after → is_space c ≡ true → InFront text after
-front_more text rest c after f e h front =
-    f front ∙ ap (λ xs. with_front front true (without_returns xs)) e
-    ∙ ap (with_front front true) (kept_before c after (space_no_return c h))
-    ∙ over_front front true c (without_returns after) refl h
-
-no_space : (front : List ℕ) (c : ℕ) (cs : List ℕ) → is_space c ≡ false
-    → with_front front true (c ∷ cs) ≡ with_front front false (c ∷ cs)
-no_space front c cs h = rw h refl
-
-other_first : (front : List ℕ) (c : ℕ) (cs : List ℕ) → is_space c ≡ false
-    → with_front front true (without_returns (c ∷ cs)) ≡ with_front front false (without_returns (c ∷ cs))
-other_first front c cs h = go (c == 13 && first_or_zero (without_returns cs) == 10) refl
-  where
-    go : (b : Bool) → (c == 13 && first_or_zero (without_returns cs) == 10) ≡ b
-        → with_front front true (cond b (without_returns cs) (c ∷ without_returns cs))
-        ≡ with_front front false (cond b (without_returns cs) (c ∷ without_returns cs))
-    go true e = sym (at_line_end front true (without_returns cs) (and_parts (c == 13) _ e).1)
-    go false e = no_space front c (without_returns cs) h
-
-pub front_ends : (text rest : List ℕ) (c : ℕ) (after : List ℕ) → InFront text rest
-    → rest ≡ c ∷ after → is_space c ≡ false → HasFront text rest
-front_ends text rest c after f e h front =
-    f front ∙ subst (λ xs. with_front front true (without_returns xs)
-    ≡ with_front front false (without_returns xs)) (sym e) (other_first front c after h)
-
-pub front_is_all : (text rest : List ℕ) → InFront text rest → rest ≡ [] → HasFront text rest
-front_is_all text rest f e front = f front ∙ subst (λ xs. with_front front true (without_returns xs)
-    ≡ with_front front false (without_returns xs)) (sym e) refl
-
 -- ---- what is written of a text, up to a rest
 
 pub record Written (old : Text) (text rest : List ℕ) (new : Text) : Type 0 where
   pub front : List ℕ
   pub whole : text ≡ front ++ rest
   pub adds : Adds old front new
-
-pub none_written : (old : Text) (text : List ℕ) → Written old text text old
-none_written old text = record { front = []; whole = refl; adds = adds_none old }
 
 pub more_written : (old middle new : Text) (text rest more after : List ℕ) → Written old text rest middle
     → rest ≡ more ++ after → Adds middle more new → Written old text after new

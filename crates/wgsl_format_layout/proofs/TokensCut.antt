@@ -1,5 +1,5 @@
 -- The tokens of a text cut it between characters, and none is a comment.
-use Rattle.std.proofs.Common.{◌≡◌, ℕ, ◌≤◌, Bool, false, List, [], ◌∷◌, drop, chars, refl, sym, subst, ◌∙◌, arith}
+use Rattle.std.proofs.Common.{◌≡◌, ℕ, ◌≤◌, Bool, false, List, [], ◌∷◌, drop, chars, refl, subst, arith}
 use Rattle.std.specs.Str.{IsUtf8, IsCharBoundary}
 use Rattle.grammar.specs.Tokens.{Token}
 use Rattle.grammar.specs.Endings.{Ending}
@@ -11,7 +11,7 @@ use Rattle.wgsl_theory_grammar.proofs.Tokens.Widths.{within}
 use Rattle.wgsl_theory_grammar.proofs.Tokens.Places.{bytes_width, cut_end}
 use Rattle.wgsl_theory_templates.specs.Rest.Left.{LeftOf, left_nothing, left_fault, left_end, left_start, left_token}
 use Rattle.wgsl_theory_templates.proofs.Rest.LeftTokens.{stream}
-use Rattle.wgsl_model_tidy.specs.LaidOut.{is_comment}
+use Rattle.wgsl_model_tidy.specs.Ahead.{is_comment}
 use Rattle.wgsl_span.specs.declared.Span.{Span}
 use Rattle.wgsl_lex_token.specs.declared.kind_table.TokenKind.{TokenKind}
 use Rattle.wgsl_lex_token.specs.View.{class_of_kind}
@@ -83,7 +83,33 @@ pub left_boundary : (source : List ℕ) (n : ℕ) (ts : List Token) → IsUtf8 s
     → AreLeftFrom source n ts → IsCharBoundary source n
 left_boundary source n ts u l = end_boundary source l.rest n u l.ends l.stands
 
--- what is known of the first of them, of which the kind and the place are known
+-- what is known of the first of them
+pub record IsFirst (source : List ℕ) (n : ℕ) (t : Token) (ts : List Token) : Type 0 where
+  pub plain : is_comment t.class ≡ false
+  pub following : n ≤ t.start
+  pub forward : t.start ≤ t.end
+  pub start_boundary : IsCharBoundary source t.start
+  pub stop_boundary : IsCharBoundary source t.end
+  pub left : AreLeftFrom source t.end ts
+
+pub first_left : (source : List ℕ) (n : ℕ) (t : Token) (ts : List Token) → IsUtf8 source
+    → AreLeftFrom source n (t ∷ ts) → IsFirst source n t ts
+first_left source n t ts u l =
+    let cut = l.cut.1 in
+    let from = cut.from in
+    let after = l.cut.0 in
+    let from_ends = joined (chars source) l.rest from l.ends cut.ends in
+    let after_ends = joined (chars source) from after from_ends cut.goes_on in
+    record {
+      plain = cut.plain;
+      following = omega (arith, cut.starts, l.stands, within l.rest from cut.ends);
+      forward = omega (arith, cut.starts, cut.stops, within from after cut.goes_on);
+      start_boundary = end_boundary source from t.start u from_ends cut.starts;
+      stop_boundary = end_boundary source after t.end u after_ends cut.stops;
+      left = record { rest = after; ends = after_ends; stands = cut.stops; cut = l.cut.2 };
+    }
+
+-- the same, where its kind and its place are known
 pub record StandsNext (source : List ℕ) (n : ℕ) (ts : List Token) (kind : TokenKind) (span : Span) : Type 0 where
   pub first : Token
   pub others : List Token
@@ -103,16 +129,7 @@ pub stands_next : (source : List ℕ) (n : ℕ) (ts : List Token) (kind : TokenK
     → StandsNext source n ts kind span
 stands_next source n [] kind span u l k s = absurd k
 stands_next source n (t ∷ ts) kind span u l k s =
-    let cut = l.cut.1 in
-    let from = cut.from in
-    let after = l.cut.0 in
-    let total = width (chars source) in
-    let from_ends = joined (chars source) l.rest from l.ends cut.ends in
-    let after_ends = joined (chars source) from after from_ends cut.goes_on in
-    let start : span.start ≡ place total from = sym s.0 ∙ cut.starts in
-    let stop : span.end ≡ place total after = sym s.1 ∙ cut.stops in
-    let starts = end_boundary source from span.start u from_ends start in
-    let stops = end_boundary source after span.end u after_ends stop in
+    let first = first_left source n t ts u l in
     record {
       first = t;
       others = ts;
@@ -120,10 +137,10 @@ stands_next source n (t ∷ ts) kind span u l k s =
       class = k;
       starts = s.0;
       stops = s.1;
-      plain = subst (λ c. is_comment c ≡ false) k cut.plain;
-      following = omega (arith, start, l.stands, within l.rest from cut.ends);
-      forward = omega (arith, start, stop, within from after cut.goes_on);
-      start_boundary = starts;
-      stop_boundary = stops;
-      left = record { rest = after; ends = after_ends; stands = stop; cut = l.cut.2 };
+      plain = subst (λ c. is_comment c ≡ false) k first.plain;
+      following = omega (arith, first.following, s.0);
+      forward = omega (arith, first.forward, s.0, s.1);
+      start_boundary = subst (IsCharBoundary source) s.0 first.start_boundary;
+      stop_boundary = subst (IsCharBoundary source) s.1 first.stop_boundary;
+      left = subst (λ k. AreLeftFrom source k ts) s.1 first.left;
     }

@@ -1,132 +1,131 @@
 -- A text of blank space and comments that is read up to a place.
-use Rattle.std.proofs.Common.{◌≡◌, ℕ, suc, ◌+◌, ◌==◌, ◌&&◌, ◌||◌, nat_lt, Bool, true, false, not, refl, sym, ap, ◌∙◌, List, [], ◌∷◌, arith}
+use Rattle.std.proofs.Common.{◌≡◌, ℕ, ◌+◌, ◌==◌, ◌||◌, nat_lt, not, Bool, true, false, refl, sym, ap, subst, ◌∙◌, List, [], ◌∷◌, chars, arith}
+use Rattle.std.specs.Prelude.{codes}
+use Rattle.std.proofs.lemmas.Bool.{true≢false}
 use Rattle.std.proofs.lemmas.Grind.{common_steps}
-use Rattle.grammar.specs.Grammar.{is_among}
-use Rattle.wgsl_model.specs.Tokens.ClassTable.{LineComment, SymBraceLeft, SymBraceRight}
 use Rattle.wgsl_model.specs.Tokens.Trivia.{outside}
-use Rattle.wgsl_model_tidy.specs.Pieces.{Piece, comments, line_ends_at}
-use Rattle.wgsl_model_tidy.specs.LaidOut.{opens_one, closes_one, has_break, ends_bracket}
+use Rattle.wgsl_model_tidy.specs.Pieces.{Piece, comments}
+use Rattle.wgsl_model_tidy.specs.Layout.{Layout}
+use Rattle.wgsl_model_tidy.specs.Open.{LayoutState}
+use Rattle.wgsl_model_tidy.specs.Ahead.{Ahead, is_inline, after_comment, tokens_ahead}
+use Rattle.wgsl_theory_tidy.proofs.Comments.{piece, nothing_left}
+use Rattle.wgsl_theory_tidy.proofs.Written.{space_chars}
+use Rattle.wgsl_format_layout.specs.declared.marks.Trivia.{Trivia}
 use Rattle.wgsl_format_layout.specs.declared.comment.CommentKind.{CommentKind}
-use Rattle.wgsl_format_layout.specs.declared.comment.CommentKind.TheVariants as comment
 use Rattle.wgsl_format_layout.specs.Gaps.{comment_class}
-use Rattle.wgsl_format_layout.specs.Comments.{IsNone}
-use Rattle.wgsl_format_layout.specs.Marks.{IsTrivia}
-use Rattle.wgsl_theory_tidy.proofs.Comments.{piece, nothing_left, and_false}
-use Rattle.wgsl_format_layout.proofs.FlagsRight.{breaks_after, first_parts}
+use Rattle.wgsl_format_layout.specs.Trivia.{no_trivia, HasPassed, IsTrivia}
+use Rattle.wgsl_format_layout.proofs.CommentKinds.{classed}
 
--- a line ends after a piece of a class, or a block begins or ends with it
-abbrev pub class_breaks : ℕ → Bool
-class_breaks class = is_among class (LineComment ∷ SymBraceLeft ∷ SymBraceRight ∷ [])
+-- a token with these columns before it, before which a line has to end or not, and after a line
+-- break of the author's or not
+abbrev moved : Ahead → ℕ → Bool → Bool → Ahead
+moved t space ends below = record t { space = space; ends = ends; below = below }
 
--- up to a rest no line ends but after the last comment, and there are comments or none
-pub record Scanned (text rest : List ℕ) (has_comment has_end : Bool) : Type 0 where
-  pub n : ℕ
-  pub ends : has_end ≡ not (n == 0)
-  pub breaks_so : (following : ℕ → List Piece) (depth : ℕ) → has_break (suc depth)
-      (comments following outside 0 text) ≡ has_break (suc depth) (comments following outside n rest)
-  pub ends_so : (following : ℕ → List Piece) → ends_bracket (comments following outside 0 text)
-      ≡ (not has_comment && ends_bracket (comments following outside n rest))
+-- the tokens ahead that are after these
+abbrev after_trivia : Trivia → List Ahead → List Ahead
+after_trivia v [] = []
+after_trivia v (t ∷ ts) = moved t (t.space + v.width) (t.ends || v.ends) (t.below || v.below) ∷ ts
 
-pub nothing_scanned : (text : List ℕ) → Scanned text text false false
-nothing_scanned text = record { n = 0; ends = refl; breaks_so = λ following depth. refl; ends_so = λ following. refl }
+moved_same : (t : Ahead) (ts : List Ahead) (m n : ℕ) (a b c d : Bool) → m ≡ n → a ≡ b → c ≡ d
+    → moved t m a c ∷ ts ≡ moved t n b d ∷ ts
+moved_same t ts m n a b c d e f g =
+    ap (λ k. moved t k a c ∷ ts) e ∙ ap (λ x. moved t n x c ∷ ts) f ∙ ap (λ x. moved t n b x ∷ ts) g
 
--- ---- a character of blank space more
-
-more_ends : (n k : ℕ) → (not (n == 0) || nat_lt 0 k) ≡ not (n + k == 0)
-more_ends n k = grind (arith, common_steps)
-
-pub scanned_blank : (text rest cs : List ℕ) (c : ℕ) (has_comment has_end after : Bool) → IsNone rest
-    → rest ≡ c ∷ cs → after ≡ (has_end || nat_lt 0 (line_ends_at c cs))
-    → Scanned text rest has_comment has_end → Scanned text cs has_comment after
-scanned_blank text rest cs c has_comment has_end after none e ends s = record {
-  n = s.n + line_ends_at c cs;
-  ends = ends ∙ ap (λ b. b || nat_lt 0 (line_ends_at c cs)) s.ends ∙ more_ends s.n (line_ends_at c cs);
-  breaks_so = λ following depth. s.breaks_so following depth ∙ ap (has_break (suc depth)) (none following s.n c cs e);
-  ends_so = λ following. s.ends_so following ∙ ap (λ ps. not has_comment && ends_bracket ps) (none following s.n c cs e);
-}
+-- up to a rest it is this
+pub record Scanned (layout : Layout) (text rest : List ℕ) (v : Trivia) : Type 0 where
+  pub ahead : (state : LayoutState) (following : ℕ → List Piece)
+      → tokens_ahead layout state (comments following outside 0 text)
+      ≡ after_trivia v (tokens_ahead layout state (comments following outside v.line_ends rest))
+  pub plain : v.has_comment ≡ false → (following : ℕ → List Piece)
+      → comments following outside 0 text ≡ comments following outside v.line_ends rest
 
 -- ---- a comment more
 
-opens_no_bracket : (kind : CommentKind) → opens_one (comment_class kind) ≡ false
-opens_no_bracket comment.Line = refl
-opens_no_bracket comment.Block = refl
-opens_no_bracket comment.Open = refl
+or_false : (b : Bool) → b ≡ (b || false)
+or_false true = refl
+or_false false = refl
 
-closes_no_bracket : (kind : CommentKind) → closes_one (comment_class kind) ≡ false
-closes_no_bracket comment.Line = refl
-closes_no_bracket comment.Block = refl
-closes_no_bracket comment.Open = refl
+none_more : (n : ℕ) → n ≡ n + 0
+none_more n = omega arith
 
--- the pieces from a comment on
-comment_parts : (kind : CommentKind) (text : List ℕ) (n depth : ℕ) (has_end : Bool) (ps : List Piece)
-    → has_end ≡ not (n == 0)
-    → has_break (suc depth) (piece (comment_class kind) text n ∷ ps)
-    ≡ ((has_end || class_breaks (comment_class kind)) || has_break (suc depth) ps)
-comment_parts kind text n depth has_end ps e =
-    let class = comment_class kind in
-    let here = not (n == 0) || class_breaks class in
-    first_parts depth (piece class text n) ps
-    ∙ ap (λ b. here || breaks_after b (opens_one class) depth ps) (closes_no_bracket kind)
-    ∙ ap (λ b. here || breaks_after false b depth ps) (opens_no_bracket kind)
-    ∙ ap (λ b. (b || class_breaks class) || has_break (suc depth) ps) (sym e)
+or_turned : (a b c : Bool) → ((a || b) || c) ≡ (a || (c || b))
+or_turned true b c = refl
+or_turned false true true = refl
+or_turned false true false = refl
+or_turned false false true = refl
+or_turned false false false = refl
 
--- after a comment the pieces neither end nor begin with a closing bracket
-comment_ends : (kind : CommentKind) (text : List ℕ) (n : ℕ) (ps : List Piece) (has_comment : Bool)
-    → (not has_comment && ends_bracket (piece (comment_class kind) text n ∷ ps)) ≡ false
-comment_ends kind text n ps has_comment = ap (λ b. not has_comment && b) (closes_no_bracket kind)
-    ∙ and_false (not has_comment)
+after_both : (layout : Layout) (p : Piece) (v w : Trivia) (ts : List Ahead) → HasPassed v layout p w
+    → p.line_ends ≡ v.line_ends → after_trivia v (after_comment layout p ts) ≡ after_trivia w ts
+after_both layout p v w [] h e = refl
+after_both layout p v w (t ∷ ts) h e =
+    moved_same t ts _ _ _ _ _ _ (omega (arith, h.width))
+    (or_turned t.ends (not (is_inline p)) v.ends ∙ ap (λ b. t.ends || b) (sym h.ends))
+    (or_turned t.below (not (p.line_ends == 0)) v.below ∙ ap (λ n. t.below || (v.below || not (n == 0))) e
+    ∙ ap (λ b. t.below || b) (sym h.below))
 
 -- a text begins with a comment, and another is after it
 abbrev pub HasComment : List ℕ → CommentKind → List ℕ → List ℕ → Type 0
 HasComment rest kind text after = (b : ℕ → List Piece) (n : ℕ)
     → comments b outside n rest ≡ piece (comment_class kind) text n ∷ comments b outside 0 after
 
--- no line ends before it or after it
-pub scanned_comment : (text rest words after : List ℕ) (kind : CommentKind) (has_comment : Bool)
-    → HasComment rest kind words after → class_breaks (comment_class kind) ≡ false
-    → Scanned text rest has_comment false → Scanned text after true false
-scanned_comment text rest words after kind has_comment is e s = record {
-  n = 0;
-  ends = refl;
-  breaks_so = λ following depth.
-      let ps = comments following outside 0 after in
-      s.breaks_so following depth ∙ ap (has_break (suc depth)) (is following s.n)
-      ∙ comment_parts kind words s.n depth false ps s.ends ∙ ap (λ b. b || has_break (suc depth) ps) e;
-  ends_so = λ following.
-      let ps = comments following outside 0 after in
-      s.ends_so following ∙ ap (λ qs. not has_comment && ends_bracket qs) (is following s.n)
-      ∙ comment_ends kind words s.n ps has_comment;
-}
+pub scanned_comment : (layout : Layout) (text rest words after : List ℕ) (kind : CommentKind) (v w : Trivia)
+    → HasComment rest kind words after
+    → HasPassed v layout (piece (comment_class kind) words v.line_ends) w
+    → Scanned layout text rest v → Scanned layout text after w
+scanned_comment layout text rest words after kind v w is h s =
+    let p = piece (comment_class kind) words v.line_ends in
+    let first : (state : LayoutState) (ps : List Piece)
+    → tokens_ahead layout state (p ∷ ps) ≡ after_comment layout p (tokens_ahead layout state ps) =
+    λ state ps. rw (classed kind) refl in
+    record {
+      ahead = λ state following.
+          let ps = comments following outside 0 after in
+          s.ahead state following
+          ∙ ap (λ qs. after_trivia v (tokens_ahead layout state qs)) (is following v.line_ends)
+          ∙ ap (after_trivia v) (first state ps)
+          ∙ after_both layout p v w (tokens_ahead layout state ps) h refl
+          ∙ ap (λ n. after_trivia w (tokens_ahead layout state (comments following outside n after))) (sym h.line_ends);
+      plain = λ e following. absurd (true≢false (sym h.has_comment ∙ e));
+    }
 
--- one does
-pub scanned_break : (text rest words after : List ℕ) (kind : CommentKind) (has_comment has_end has_next : Bool)
-    → HasComment rest kind words after → (has_end || class_breaks (comment_class kind)) ≡ true
-    → Scanned text rest has_comment has_end
-    → IsTrivia text has_next (record { breaks = true; has_comment = true })
-scanned_break text rest words after kind has_comment has_end has_next is e s = (
-  λ following depth counts.
-      let ps = comments following outside 0 after in
-      s.breaks_so following depth ∙ ap (has_break (suc depth)) (is following s.n)
-      ∙ comment_parts kind words s.n depth has_end ps s.ends ∙ ap (λ b. b || has_break (suc depth) ps) e,
-  λ following same.
-      let ps = comments following outside 0 after in
-      s.ends_so following ∙ ap (λ qs. not has_comment && ends_bracket qs) (is following s.n)
-      ∙ comment_ends kind words s.n ps has_comment,
-)
+-- a line ends where one does at least
+pub breaks_so : (n : ℕ) → nat_lt 0 n ≡ not (n == 0)
+breaks_so n = grind (arith, common_steps)
 
 -- ---- the whole text
 
-pub scanned_all : (text rest : List ℕ) (has_comment has_end has_next here : Bool) → rest ≡ []
-    → here ≡ (has_end && has_next) → Scanned text rest has_comment has_end
-    → IsTrivia text has_next (record { breaks = here; has_comment = has_comment })
-scanned_all text rest has_comment has_end has_next here none e s = (
-  λ following depth counts.
-      s.breaks_so following depth ∙ ap (λ xs. has_break (suc depth) (comments following outside s.n xs)) none
-      ∙ ap (has_break (suc depth)) (nothing_left following s.n) ∙ counts s.n
-      ∙ ap (λ b. (b && has_next) || has_break (suc depth) (following 0)) (sym s.ends)
-      ∙ ap (λ b. b || has_break (suc depth) (following 0)) (sym e),
-  λ following same.
-      s.ends_so following ∙ ap (λ xs. not has_comment && ends_bracket (comments following outside s.n xs)) none
-      ∙ ap (λ ps. not has_comment && ends_bracket ps) (nothing_left following s.n)
-      ∙ ap (λ b. not has_comment && b) (same s.n),
-)
+breaks_or : (n : ℕ) (b : Bool) → (not (n == 0) || b) ≡ (b || nat_lt 0 n)
+breaks_or n b = grind (arith, common_steps)
+
+pub scanned_all : (layout : Layout) (text rest : List ℕ) (v : Trivia) (below : Bool) → rest ≡ []
+    → below ≡ (v.below || nat_lt 0 v.line_ends) → Scanned layout text rest v
+    → IsTrivia layout text (record v { below = below })
+scanned_all layout text rest v below e h s =
+    let n = v.line_ends in
+    let none : (following : ℕ → List Piece) → comments following outside n rest ≡ following n = λ following.
+    ap (comments following outside n) e ∙ nothing_left following n in
+    record {
+      ahead = λ state following t ts k.
+          s.ahead state following ∙ ap (λ ps. after_trivia v (tokens_ahead layout state ps)) (none following)
+          ∙ ap (after_trivia v) (k n)
+          ∙ ap (λ b. moved t (t.space + v.width) (t.ends || v.ends) b ∷ ts) (breaks_or n v.below ∙ sym h);
+      plain = λ c following. s.plain c following ∙ none following;
+    }
+
+space_left : (following : ℕ → List Piece) → comments following outside 0 (32 ∷ []) ≡ following 0
+unfolding comments
+space_left following = refl
+
+-- a space
+pub one_space : (layout : Layout) (bytes : List ℕ) (v : Trivia) → bytes ≡ codes " " → v ≡ no_trivia
+    → IsTrivia layout (chars bytes) v
+one_space layout bytes v e k =
+    let none : (following : ℕ → List Piece) → comments following outside 0 (chars bytes) ≡ following 0 = λ following.
+    ap (comments following outside 0) (ap chars e ∙ space_chars) ∙ space_left following in
+    subst (IsTrivia layout (chars bytes)) (sym k) (record {
+      ahead = λ state following t ts k.
+          ap (tokens_ahead layout state) (none following) ∙ k 0
+          ∙ moved_same t ts t.space _ t.ends _ false _ (none_more t.space) (or_false t.ends) refl;
+      plain = λ c following. none following;
+    })

@@ -3,7 +3,7 @@ use Rattle.std.specs.Prelude.{◌≡◌, ℕ, false, List, [], ◌∷◌, chars}
 use Rattle.grammar.specs.Tokens.{Token}
 use Rattle.wgsl_model.specs.Tokens.Places.{place, width}
 use Rattle.wgsl_theory_grammar.proofs.Tokens.Cuts.{EndsWith}
-use Rattle.wgsl_model_tidy.specs.LaidOut.{is_comment}
+use Rattle.wgsl_model_tidy.specs.Ahead.{is_comment}
 
 -- a token is in a text and another text after it; it is no comment
 pub record IsCutOff (total : ℕ) (text after : List ℕ) (t : Token) : Type 0 where

@@ -28,6 +28,7 @@ role_view role.Minus = plain.minus
 role_view role.Ampersand = plain.ampersand
 role_view role.Prefix = plain.prefix
 role_view role.Binary = plain.binary
+role_view role.Assign = plain.assign
 role_view role.Step = plain.step
 role_view role.Beginning = plain.beginning
 role_view role.ItemEnd = plain.item_end

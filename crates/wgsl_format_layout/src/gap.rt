@@ -4,14 +4,11 @@ ghost use Rattle.std.specs.Prelude.{◌≡◌, ◌==◌};
 ghost use Rattle.wgsl_model.specs.Tokens.ClassTable.{LineComment};
 ghost use Rattle.wgsl_model_tidy.specs.LaidOut as plain;
 ghost use Rattle.wgsl_model_tidy.specs.Roles.{closes};
-ghost use Rattle.wgsl_model_tidy.specs.Joints.{joint};
 ghost use Rattle.wgsl_format_layout.specs.View.{role_view, joint_view};
 ghost use Rattle.wgsl_format_layout.specs.Gaps.{comment_class, gap_view, last_view};
-ghost use Rattle.wgsl_format_layout.specs.Kinds.{enclosing_view};
 
 use crate::comment::CommentKind;
-use crate::joint::{Joint, joint_of};
-use crate::opened::Enclosing;
+use crate::joint::Joint;
 use crate::role::Role;
 
 /// What is written before a piece.
@@ -126,17 +123,16 @@ fn after_leading(joint: Joint, right: Role) -> Joint
 
 /// The gap before a token.
 pub(crate) fn token_gap(
-    enclosing: Enclosing,
+    joint: Joint,
     last: Last,
     left: Role,
     right: Role,
     line_ends: usize,
     broken: Gap,
 ) -> Gap
-    ensures { gap_view result ≡ plain.token_gap (enclosing_view enclosing)
+    ensures { gap_view result ≡ plain.token_gap (joint_view joint)
         (last_view last) (role_view left) (role_view right) line_ends (gap_view broken) }
 {
-    let joint = joint_of(enclosing, left, right);
     match last {
         Last::Token => {
             if left.is(Role::Beginning) {
@@ -212,7 +208,7 @@ fn is_after_opening(last: Last, left: Role) -> bool
 
 /// A line break before such a token: an empty line of the author's stays between items, but
 /// neither after an opening bracket nor before a closing one.
-pub(crate) fn line_end(
+pub(crate) fn line_break(
     items: bool,
     last: Last,
     left: Role,
@@ -230,8 +226,8 @@ pub(crate) fn line_end(
 }
 
 /// Whether a piece after a gap begins a line.
-pub(crate) fn begins_line(gap: Gap, last: Last, left: Role) -> bool
-    ensures { result ≡ plain.begins_line (gap_view gap) (last_view last) (role_view left) }
+pub(crate) fn is_at_front(gap: Gap, last: Last, left: Role) -> bool
+    ensures { result ≡ plain.is_at_front (gap_view gap) (last_view last) (role_view left) }
 {
     if let Gap::Broken { .. } = gap {
         return true;

@@ -1,7 +1,7 @@
 //! What is between two neighbouring tokens.
 
 ghost use Rattle.std.specs.Prelude.{◌≡◌};
-ghost use Rattle.wgsl_model_tidy.specs.Joints.{stay_apart, tight_after, is_applied, is_template, is_continued, closed_up, continues_line, after_block, joint_in_line, joint_in_lines, ended, joint};
+ghost use Rattle.wgsl_model_tidy.specs.Joints.{stay_apart, tight_after, is_applied, is_template, is_continued, closed_up, continues_line, after_block, joint_in_line, joint_in_lines, is_between_items, joint_in_own_lines, joint};
 ghost use Rattle.wgsl_format_layout.specs.View.{role_view, joint_view};
 ghost use Rattle.wgsl_format_layout.specs.Kinds.{enclosing_view};
 
@@ -64,7 +64,7 @@ fn is_continued(left: Role, right: Role) -> bool
 }
 
 /// Whether two neighbours are closed up.
-fn closed_up(left: Role, right: Role) -> bool
+pub(crate) fn closed_up(left: Role, right: Role) -> bool
     ensures { result ≡ closed_up (role_view left) (role_view right) }
 {
     right.is_tight()
@@ -74,14 +74,11 @@ fn closed_up(left: Role, right: Role) -> bool
         || is_continued(left, right)
 }
 
-/// Whether a line break of the author's stays between two that are not closed up.
-fn goes_on(left: Role, right: Role) -> bool
-    ensures { result ≡ continues_line (role_view left) (role_view right) }
+/// Whether a line break of the author's stays after one that is not closed up with the next.
+fn goes_on(left: Role) -> bool
+    ensures { result ≡ continues_line (role_view left) }
 {
-    left.is(Role::Binary)
-        || right.is(Role::Binary)
-        || left.is(Role::Comma)
-        || left.is(Role::Attribute)
+    left.is(Role::Comma) || left.is(Role::Attribute)
 }
 
 /// What is after `}`; a `;` of the author's may be in a line of its own.
@@ -110,9 +107,9 @@ fn joint_in_line(left: Role, right: Role) -> Joint
     }
 }
 
-/// What is between two neighbours where a line may end, in brackets or not.
-fn joint_in_lines(in_brackets: bool, left: Role, right: Role) -> Joint
-    ensures { joint_view result ≡ joint_in_lines in_brackets (role_view left) (role_view right) }
+/// What is between two neighbours in no bracket.
+fn joint_in_lines(left: Role, right: Role) -> Joint
+    ensures { joint_view result ≡ joint_in_lines (role_view left) (role_view right) }
 {
     if left.is(Role::BlockStart) {
         if right.is(Role::BlockEnd) {
@@ -120,7 +117,13 @@ fn joint_in_lines(in_brackets: bool, left: Role, right: Role) -> Joint
         } else {
             Joint::Line
         }
-    } else if right.is(Role::BlockEnd) || left.is(Role::ItemEnd) {
+    } else if left.is(Role::ItemEnd) {
+        if right.is(Role::Semicolon) {
+            Joint::NothingOrLine
+        } else {
+            Joint::Line
+        }
+    } else if right.is(Role::BlockEnd) {
         Joint::Line
     } else if left.is(Role::BlockEnd) {
         after_block(right)
@@ -128,20 +131,31 @@ fn joint_in_lines(in_brackets: bool, left: Role, right: Role) -> Joint
         Joint::Space
     } else if closed_up(left, right) {
         Joint::Nothing
-    } else if in_brackets || goes_on(left, right) {
+    } else if goes_on(left) {
         Joint::SpaceOrLine
     } else {
         Joint::Space
     }
 }
 
-/// Where a line may end it ends, after an item.
-fn ended(after_item: bool, joint: Joint) -> Joint
-    ensures { joint_view result ≡ ended after_item (joint_view joint) }
+/// Whether an item ends and another begins.
+pub(crate) fn is_between_items(left: Role, right: Role) -> bool
+    ensures { result ≡ is_between_items (role_view left) (role_view right) }
 {
-    match joint {
-        Joint::SpaceOrLine if after_item => Joint::Line,
-        _ => joint,
+    (left.is(Role::Comma) || left.is(Role::Semicolon)) && !closed_up(left, right)
+}
+
+/// What is between two neighbours in a bracket in lines of its own, with this between items.
+fn joint_in_own_lines(between_items: Joint, left: Role, right: Role) -> Joint
+    ensures { joint_view result ≡ joint_in_own_lines
+        (joint_view between_items) (role_view left) (role_view right) }
+{
+    if left.opens_bracket() || right.closes_bracket() {
+        Joint::Line
+    } else if is_between_items(left, right) {
+        between_items
+    } else {
+        joint_in_line(left, right)
     }
 }
 
@@ -151,20 +165,11 @@ pub(crate) fn joint_of(enclosing: Enclosing, left: Role, right: Role) -> Joint
         ≡ joint (enclosing_view enclosing) (role_view left) (role_view right) }
 {
     match enclosing {
-        Enclosing::NoBracket => joint_in_lines(false, left, right),
+        Enclosing::NoBracket => joint_in_lines(left, right),
         Enclosing::OneLine => joint_in_line(left, right),
-        Enclosing::OwnLines => {
-            if left.opens_bracket() || right.closes_bracket() {
-                return Joint::Line;
-            }
-            joint_in_lines(true, left, right)
+        Enclosing::OwnLines | Enclosing::FilledLines => {
+            joint_in_own_lines(Joint::SpaceOrLine, left, right)
         }
-        Enclosing::ItemLines => {
-            if left.opens_bracket() || right.closes_bracket() {
-                return Joint::Line;
-            }
-            let after_item = left.is(Role::Comma) || left.is(Role::Semicolon);
-            ended(after_item, joint_in_lines(true, left, right))
-        }
+        Enclosing::ItemLines => joint_in_own_lines(Joint::Line, left, right),
     }
 }

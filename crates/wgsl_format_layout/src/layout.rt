@@ -1,14 +1,19 @@
 //! What a user chooses of the layout.
 
-ghost use Rattle.std.specs.Prelude.{◌≡◌};
+ghost use Rattle.std.specs.Prelude.{◌≡◌, ◌+◌, IfOk};
 ghost use Rattle.wgsl_model_tidy.specs.Layout as plain;
+ghost use Rattle.wgsl_model_tidy.specs.Ahead.{is_within};
+ghost use Rattle.wgsl_model_tidy.specs.LaidOut.{line_column};
 ghost use Rattle.wgsl_format_layout.specs.Layouts.{layout_view};
+
+use std::alloc::AllocError;
 
 /// The layout of a formatted text: how long a line may be, how far it is indented, and with what it
 /// ends.
 #[derive(Clone, Copy, Debug, PartialEq, Eq)]
 pub struct Layout {
-    /// A line with more columns is broken at its brackets, as far as it has any. If 0, none is.
+    /// A line with more columns is broken at its operators and brackets, as far as it has any. If
+    /// 0, none is.
     pub width: usize,
     pub indent: Indent,
     pub newlines: Newlines,
@@ -51,6 +56,29 @@ impl Layout {
     {
         match self.indent {
             Indent::Spaces(columns) | Indent::Tab(columns) => usize::from(columns),
+        }
+    }
+
+    /// The column at which a line of this depth begins.
+    pub(crate) fn line_column(self, depth: usize) -> Result<usize, AllocError>
+        ensures { IfOk result (λ column. column ≡ line_column (layout_view self) depth) }
+    {
+        match self.indent_columns().checked_mul(depth) {
+            Some(column) => Ok(column),
+            None => Err(AllocError),
+        }
+    }
+
+    /// Whether a line that ends at a column and so many more is not too long.
+    pub(crate) fn is_within(self, column: usize, more: usize) -> bool
+        ensures { result ≡ is_within (layout_view self) (column + more) }
+    {
+        if self.width == 0 {
+            return true;
+        }
+        match self.width.checked_sub(column) {
+            Some(room) => more <= room,
+            None => false,
         }
     }
 

@@ -1,29 +1,49 @@
-//! The column at which a text ends, and whether a line of it is too long.
+//! The column at which a text ends.
 
-ghost use Rattle.std.specs.Prelude.{◌≡◌, ◌∷◌, [], chars, IfOk};
+ghost use Rattle.std.specs.Prelude.{◌≡◌, ◌+◌, ◌∷◌, [], true, chars, IfOk};
 ghost use Rattle.std.specs.List.{list_all};
 ghost use Rattle.wgsl_model_tidy.specs.Layout as plain;
 ghost use Rattle.wgsl_format_layout.specs.Layouts.{layout_view};
-ghost use Rattle.wgsl_format_layout.specs.Lines.{Passes, MovesOn, ended_by, is_over, is_printable};
+ghost use Rattle.wgsl_format_layout.specs.Lines.{Passes, MovesOn, is_printable};
 
 use crate::layout::Layout;
 use std::alloc::AllocError;
 use wgsl_lex_scanner::text::split_first;
 
-/// The state of the line in which a place is, whose end is looked for.
-#[derive(Clone, Copy, PartialEq, Eq)]
-pub enum Wanted {
-    /// It has not ended yet.
-    Open,
-    Fits,
-    TooLong,
-}
-
 /// Whether each character of a text is a printable one of ASCII, which takes one column.
-fn is_printable(text: &str) -> bool
+pub(crate) fn is_printable(text: &str) -> bool
     ensures { result ≡ list_all is_printable text.now }
 {
     text.as_bytes().iter().all(|b| b' ' <= *b && *b <= b'~')
+}
+
+/// The sum of two numbers of columns. A line so long that no number says its columns has no place
+/// in memory.
+pub(crate) fn added(columns: usize, more: usize) -> Result<usize, AllocError>
+    ensures { IfOk result (λ sum. sum ≡ columns + more) }
+{
+    match columns.checked_add(more) {
+        Some(sum) => Ok(sum),
+        None => Err(AllocError),
+    }
+}
+
+/// How many columns a text has, or what is after its last line break.
+pub(crate) fn width_of(text: &str, layout: Layout) -> Result<usize, AllocError>
+    ensures { IfOk result (λ width.
+        width ≡ plain.column_after (layout_view layout) 0 (chars text.now)) }
+{
+    let mut line = Line::new(layout);
+    line.pass(text)?;
+    Ok(line.column)
+}
+
+/// The same, where each character is a printable one of ASCII.
+pub(crate) fn printable_width(text: &str) -> usize
+    requires { list_all is_printable text.now ≡ true }
+    ensures { (layout : plain.Layout) → result ≡ plain.column_after layout 0 (chars text.now) }
+{
+    text.len()
 }
 
 /// The last line of a text.
@@ -32,8 +52,6 @@ pub struct Line {
     pub layout: Layout,
     /// How many columns it has.
     pub column: usize,
-    /// What is known of the line that is looked at, which is this one or an earlier one.
-    pub wanted: Wanted,
 }
 
 impl Line {
@@ -42,22 +60,7 @@ impl Line {
         ensures layout { result.layout ≡ layout }
         ensures column { result.column ≡ 0 }
     {
-        Line {
-            layout,
-            column: 0,
-            wanted: Wanted::Fits,
-        }
-    }
-
-    /// What is known of the line that is looked at, if this one ends.
-    fn ended(self) -> Wanted
-        ensures { result ≡ ended_by self.layout self.wanted self.column }
-    {
-        match self.wanted {
-            Wanted::Open if self.column <= self.layout.width => Wanted::Fits,
-            Wanted::Open | Wanted::TooLong => Wanted::TooLong,
-            Wanted::Fits => Wanted::Fits,
-        }
+        Line { layout, column: 0 }
     }
 
     /// Goes over a character.
@@ -65,7 +68,6 @@ impl Line {
         ensures { IfOk result (λ _. Passes self.old (c ∷ []) self.new) }
     {
         if c == '\n' {
-            self.wanted = self.ended();
             self.column = 0;
             return Ok(());
         }
@@ -73,16 +75,11 @@ impl Line {
     }
 
     /// Goes on by a number of columns.
-    fn move_on(&mut self, columns: usize) -> Result<(), AllocError>
+    pub(crate) fn move_on(&mut self, columns: usize) -> Result<(), AllocError>
         ensures { IfOk result (λ _. MovesOn self.old columns self.new) }
     {
-        match self.column.checked_add(columns) {
-            Some(column) => {
-                self.column = column;
-                Ok(())
-            }
-            None => Err(AllocError),
-        }
+        self.column = added(self.column, columns)?;
+        Ok(())
     }
 
     /// Goes over a text.
@@ -98,16 +95,5 @@ impl Line {
             rest = after;
         }
         Ok(())
-    }
-
-    /// Whether the line that is looked at is too long, whatever follows.
-    pub(crate) fn is_too_long(self) -> bool
-        ensures { result ≡ is_over self }
-    {
-        match self.wanted {
-            Wanted::Open => self.layout.width < self.column,
-            Wanted::Fits => false,
-            Wanted::TooLong => true,
-        }
     }
 }

@@ -2,9 +2,8 @@
 
 ghost use Rattle.std.specs.Prelude.{◌≡◌, suc, [], ◌∷◌, drop, map, reverse, IfOk};
 ghost use Rattle.wgsl_model_tidy.specs.Open as plain;
-ghost use Rattle.wgsl_model_tidy.specs.LaidOut.{may_break};
+ghost use Rattle.wgsl_model_tidy.specs.LaidOut.{may_break, is_filled};
 ghost use Rattle.wgsl_format_layout.specs.Kinds.{open_view, enclosing_view, style_view};
-ghost use Rattle.wgsl_format_layout.specs.Parted.{parted_open, parted_opened};
 ghost use Rattle.wgsl_format_layout.specs.declared.opened.OpenAt.{OpenAt};
 
 use std::alloc::{AllocError, Global};
@@ -17,6 +16,8 @@ pub enum Style {
     Together,
     /// In lines of its own, those inside as the author has them.
     AsWritten,
+    /// The same, with more lines where one is too long.
+    Filled,
     /// In lines of its own, with each item in a line.
     ItemByItem,
 }
@@ -24,13 +25,9 @@ pub enum Style {
 /// Something that is open.
 #[derive(Clone, Copy)]
 pub enum Open {
-    /// The block of a statement, a declaration or a clause.
+    /// A block, or the members of a structure.
     Block,
-    /// The members of a structure.
-    Members,
-    /// The arguments of an attribute.
-    Arguments(Style),
-    /// Every other bracket, and a template list.
+    /// A bracket or a template list.
     Bracket(Style),
 }
 
@@ -42,6 +39,8 @@ pub enum Enclosing {
     OneLine,
     /// A bracket in lines of its own, as the author has them.
     OwnLines,
+    /// The same, with more lines where one is too long.
+    FilledLines,
     /// A bracket in lines of its own, with each item in a line.
     ItemLines,
 }
@@ -53,6 +52,7 @@ fn enclosed_by(style: Style) -> Enclosing
     match style {
         Style::Together => Enclosing::OneLine,
         Style::AsWritten => Enclosing::OwnLines,
+        Style::Filled => Enclosing::FilledLines,
         Style::ItemByItem => Enclosing::ItemLines,
     }
 }
@@ -64,18 +64,12 @@ impl Enclosing {
     {
         !matches!(self, Enclosing::OneLine)
     }
-}
 
-impl Open {
-    /// The same, but with each item in a line if it is a bracket.
-    fn parted(self) -> Open
-        ensures { open_view result ≡ parted_open (open_view self) }
+    /// Whether it is filled.
+    pub(crate) fn is_filled(self) -> bool
+        ensures { result ≡ is_filled (enclosing_view self) }
     {
-        match self {
-            Open::Arguments(_) => Open::Arguments(Style::ItemByItem),
-            Open::Bracket(_) => Open::Bracket(Style::ItemByItem),
-            Open::Block | Open::Members => self,
-        }
+        matches!(self, Enclosing::FilledLines)
     }
 }
 
@@ -117,14 +111,6 @@ impl Opened {
         }
     }
 
-    pub(crate) fn clone(&self, alloc: Global) -> Result<Opened, AllocError>
-        ensures { IfOk result (λ copy. copy ≡ self.now) }
-    {
-        Ok(Opened {
-            items: Vec::from_slice(alloc, self.items.as_slice())?,
-        })
-    }
-
     pub(crate) fn push(&mut self, kind: Open, depth: usize) -> Result<(), AllocError>
         ensures { IfOk result (λ _. self.new ≡ (open_view kind, depth) ∷ self.old) }
     {
@@ -139,22 +125,12 @@ impl Opened {
         self.items.pop();
     }
 
-    /// Writes the innermost with each item in a line, if it is a bracket.
-    pub(crate) fn part(&mut self) -> Result<(), AllocError>
-        ensures { IfOk result (λ _. self.new ≡ parted_opened self.old) }
-    {
-        match self.items.pop() {
-            Some(open) => self.push(open.kind.parted(), open.depth),
-            None => Ok(()),
-        }
-    }
-
     /// Whether the innermost is a bracket or a template list.
     pub(crate) fn in_brackets(&self) -> bool
         ensures { result ≡ plain.in_brackets self.now }
     {
         match self.items.last() {
-            Some(open) => matches!(open.kind, Open::Bracket(_) | Open::Arguments(_)),
+            Some(open) => matches!(open.kind, Open::Bracket(_)),
             None => false,
         }
     }
@@ -165,30 +141,10 @@ impl Opened {
     {
         match self.items.last() {
             Some(open) => match open.kind {
-                Open::Block | Open::Members => Enclosing::NoBracket,
-                Open::Arguments(style) | Open::Bracket(style) => enclosed_by(style),
+                Open::Block => Enclosing::NoBracket,
+                Open::Bracket(style) => enclosed_by(style),
             },
             None => Enclosing::NoBracket,
-        }
-    }
-
-    /// Whether the innermost has the members of a structure.
-    pub(crate) fn in_members(&self) -> bool
-        ensures { result ≡ plain.in_members self.now }
-    {
-        match self.items.last() {
-            Some(open) => matches!(open.kind, Open::Members),
-            None => false,
-        }
-    }
-
-    /// Whether the innermost has the arguments of an attribute.
-    pub(crate) fn in_arguments(&self) -> bool
-        ensures { result ≡ plain.in_arguments self.now }
-    {
-        match self.items.last() {
-            Some(open) => matches!(open.kind, Open::Arguments(_)),
-            None => false,
         }
     }
 

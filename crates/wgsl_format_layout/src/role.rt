@@ -1,7 +1,7 @@
 //! What a token does where it is.
 
-ghost use Rattle.std.specs.Prelude.{◌≡◌};
-ghost use Rattle.wgsl_model_tidy.specs.Roles.{role_of, sign_role, is, ends_operand, begins_operand, wants_operand, is_tight, opens, opens_bracket, closes, closes_bracket, begins_item};
+ghost use Rattle.std.specs.Prelude.{◌≡◌, true};
+ghost use Rattle.wgsl_model_tidy.specs.Roles.{role_of, sign_role, is, ends_operand, begins_operand, wants_operand, is_literal, ends_item, ends_operands, is_in_operand, precedence, is_tight, opens, opens_bracket, closes, closes_bracket, begins_item};
 ghost use Rattle.wgsl_lex_token.specs.View.{class_of_kind};
 ghost use Rattle.wgsl_format_layout.specs.View.{role_view};
 
@@ -38,8 +38,10 @@ pub(crate) enum Role {
     Ampersand,
     /// Another operator before its operand.
     Prefix,
-    /// An operator between operands, or of an assignment.
+    /// An operator between operands.
     Binary,
+    /// The operator of an assignment.
+    Assign,
     /// `++` or `--` of an increment or a decrement.
     Step,
     /// Nothing is before.
@@ -99,7 +101,6 @@ pub(crate) fn role_of(after_operand: bool, kind: TokenKind) -> Role
         TokenKind::SymPlusPlus | TokenKind::SymMinusMinus => Role::Step,
         TokenKind::SymAndAnd
         | TokenKind::SymForwardSlash
-        | TokenKind::SymEqual
         | TokenKind::SymEqualEqual
         | TokenKind::SymNotEqual
         | TokenKind::SymGreaterThan
@@ -112,7 +113,8 @@ pub(crate) fn role_of(after_operand: bool, kind: TokenKind) -> Role
         | TokenKind::SymPlus
         | TokenKind::SymOr
         | TokenKind::SymOrOr
-        | TokenKind::SymXor
+        | TokenKind::SymXor => Role::Binary,
+        TokenKind::SymEqual
         | TokenKind::SymPlusEqual
         | TokenKind::SymMinusEqual
         | TokenKind::SymTimesEqual
@@ -122,8 +124,26 @@ pub(crate) fn role_of(after_operand: bool, kind: TokenKind) -> Role
         | TokenKind::SymOrEqual
         | TokenKind::SymXorEqual
         | TokenKind::SymShiftRightAssign
-        | TokenKind::SymShiftLeftAssign => Role::Binary,
+        | TokenKind::SymShiftLeftAssign => Role::Assign,
         _ => Role::Word,
+    }
+}
+
+/// How a token of a role binds, if it is an operator between operands, the weakest first; or 0.
+pub(crate) fn precedence_of(role: Role, kind: TokenKind) -> u8
+    ensures { result ≡ precedence (role_view role) (class_of_kind kind) }
+{
+    if !role.is(Role::Binary) {
+        return 0;
+    }
+    match kind {
+        TokenKind::SymOrOr => 1,
+        TokenKind::SymAndAnd => 2,
+        TokenKind::SymOr | TokenKind::SymXor | TokenKind::SymAnd => 3,
+        TokenKind::SymShiftLeft | TokenKind::SymShiftRight => 5,
+        TokenKind::SymPlus | TokenKind::SymMinus | TokenKind::SymMinusMinus => 6,
+        TokenKind::SymStar | TokenKind::SymForwardSlash | TokenKind::SymModulo => 7,
+        _ => 4,
     }
 }
 
@@ -207,6 +227,54 @@ impl Role {
         ensures { result ≡ closes_bracket (role_view self) }
     {
         matches!(self, Role::Closing | Role::TemplateEnd)
+    }
+
+    /// Whether it is a name or a number.
+    pub(crate) fn is_literal(self) -> bool
+        ensures { result ≡ is_literal (role_view self) }
+    {
+        matches!(self, Role::Name | Role::Unsuffixed | Role::Number)
+    }
+
+    /// Whether an item or a bracket ends with it, a block begins or ends, or something is assigned.
+    pub(crate) fn ends_item(self) -> bool
+        ensures { result ≡ ends_item (role_view self) }
+    {
+        matches!(
+            self,
+            Role::Comma
+                | Role::Semicolon
+                | Role::Closing
+                | Role::TemplateEnd
+                | Role::BlockStart
+                | Role::BlockEnd
+                | Role::Assign
+        )
+    }
+
+    /// Whether operands end with it.
+    pub(crate) fn ends_operands(self) -> bool
+        ensures { result ≡ ends_operands (role_view self) }
+    {
+        matches!(self, Role::Colon | Role::Word | Role::ElseWord | Role::At) || self.ends_item()
+    }
+
+    /// Whether it is in the middle of an operand.
+    pub(crate) fn is_in_operand(self) -> bool
+        ensures { result ≡ is_in_operand (role_view self) }
+    {
+        matches!(
+            self,
+            Role::Period | Role::At | Role::Step | Role::Minus | Role::Ampersand | Role::Prefix
+        ) || self.ends_operand()
+    }
+
+    /// Whether a line of tokens ends with it outside of brackets: a statement or a member ends, or
+    /// a block begins or ends.
+    pub(crate) fn ends_line(self) -> bool
+        ensures { result ≡ true → ends_item (role_view self) ≡ true }
+    {
+        matches!(self, Role::Semicolon | Role::BlockStart | Role::BlockEnd)
     }
 
     /// Whether a statement, a declaration, a member or a clause can begin after it.

@@ -1,11 +1,12 @@
 //! A text that is written piece by piece.
 
-ghost use Rattle.std.specs.Prelude.{◌≡◌, ◌++◌, chars, string_bytes, IfOk};
+ghost use Rattle.std.specs.Prelude.{◌≡◌, true, chars, IfOk};
+ghost use Rattle.std.specs.List.{list_all};
 ghost use Rattle.wgsl_model_tidy.specs.LaidOut.{gap_text, indentation};
 ghost use Rattle.wgsl_model_tidy.specs.Layout.{level};
 ghost use Rattle.wgsl_format_layout.specs.Gaps.{gap_view};
 ghost use Rattle.wgsl_format_layout.specs.Layouts.{layout_view};
-ghost use Rattle.wgsl_format_layout.specs.Lines.{Adds, IsEmpty};
+ghost use Rattle.wgsl_format_layout.specs.Lines.{is_printable, Adds, IsEmpty};
 
 use crate::gap::Gap;
 use crate::layout::{Indent, Layout};
@@ -39,6 +40,27 @@ impl Text {
     {
         self.string.push_str(piece)?;
         self.line.pass(piece)
+    }
+
+    /// Writes a text of which each character is a printable one of ASCII.
+    pub(crate) fn put_printable(&mut self, piece: &str) -> Result<(), AllocError>
+        requires { list_all is_printable piece.now ≡ true }
+        ensures { IfOk result (λ _. Adds self.old (chars piece.now) self.new) }
+    {
+        self.string.push_str(piece)?;
+        self.line.move_on(piece.len())
+    }
+
+    /// Writes the characters of a token, each of which is a printable one of ASCII if this is
+    /// true.
+    pub(crate) fn put_token(&mut self, piece: &str, in_ascii: bool) -> Result<(), AllocError>
+        requires { in_ascii ≡ true → list_all is_printable piece.now ≡ true }
+        ensures { IfOk result (λ _. Adds self.old (chars piece.now) self.new) }
+    {
+        if in_ascii {
+            return self.put_printable(piece);
+        }
+        self.put(piece)
     }
 
     /// Writes one level of indentation.

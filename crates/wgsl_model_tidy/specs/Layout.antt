@@ -1,5 +1,5 @@
 -- What a user chooses of the layout.
-use Rattle.std.specs.Prelude.{ℕ, Bool, false, ◌+◌, ◌==◌, nat_le, if◌then◌else◌, List, [], ◌∷◌, codes, replicate}
+use Rattle.std.specs.Prelude.{ℕ, Bool, false, ◌+◌, ◌==◌, if◌then◌else◌, List, [], ◌∷◌, codes, replicate}
 
 -- with what lines end: CR LF if the first line break of the source is CR LF, else LF; always LF;
 -- always CR LF
@@ -30,8 +30,3 @@ columns layout c = if c == 9 then layout.indent else 1
 abbrev pub column_after : Layout → ℕ → List ℕ → ℕ
 column_after layout n [] = n
 column_after layout n (c ∷ cs) = column_after layout (if c == 10 then 0 else n + columns layout c) cs
-
--- the first line of a text that begins at a column is not too long
-abbrev pub line_fits : Layout → ℕ → List ℕ → Bool
-line_fits layout n [] = nat_le n layout.width
-line_fits layout n (c ∷ cs) = if c == 10 then nat_le n layout.width else line_fits layout (n + columns layout c) cs

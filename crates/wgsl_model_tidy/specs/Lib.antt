@@ -5,6 +5,7 @@ pub mod Joints
 pub mod Open
 pub mod Layout
 pub mod Shown
+pub mod Ahead
 pub mod LaidOut
 pub mod Formatted
 pub mod NonBlank

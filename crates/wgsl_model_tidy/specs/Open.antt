@@ -1,12 +1,13 @@
 -- What is open at a place, how deep a line there is, and what a token does to it.
-use Rattle.std.specs.Prelude.{ℕ, suc, Bool, true, false, ◌&&◌, ◌||◌, not, ◌==◌, if◌then◌else◌, List, [], ◌∷◌, drop}
+use Rattle.std.specs.Prelude.{ℕ, suc, ◌+◌, Bool, true, false, ◌&&◌, ◌||◌, not, ◌==◌, nat_lt, if◌then◌else◌, List, [], ◌∷◌, drop}
 use Rattle.wgsl_model.specs.Tokens.ClassTable.{SymMinusMinus, KwStruct}
-use Rattle.wgsl_model_tidy.specs.Roles.{Role, else_word, opening, closing, template_start, block_start, block_end, comma, semicolon, at, binary, item_end, attribute, beginning, is, opens_bracket, closes, ends_operand, begins_item, role_of}
+use Rattle.wgsl_model_tidy.specs.Roles.{Role, else_word, opening, closing, template_start, block_start, block_end, comma, semicolon, at, binary, item_end, attribute, beginning, is, opens, opens_bracket, closes, ends_operand, begins_item, role_of, is_in_operand, ends_operands, precedence}
 
--- how a bracket is written: in one line; in lines of its own, those inside as the author has them;
--- or in lines of its own, with each item in a line
+-- how a bracket is written: in one line; or in lines of its own, those inside as the author has
+-- them,
+-- the same with more where one is too long, or with each item in a line
 pub data Style : Type 0 where
-  together as_written item_by_item : Style
+  together as_written filled item_by_item : Style
 
 -- a block, the members of a structure, the arguments of an attribute, every other bracket
 pub data Open : Type 0 where
@@ -17,19 +18,37 @@ pub data Open : Type 0 where
 abbrev pub Opened : Type 0
 Opened = List (Open × ℕ)
 
--- what is open, the depth of the line, what the last token is to what follows, whether the last
--- attribute is one of a statement, a declaration or a member, and whether the next `{` opens a
--- structure
+-- operands with a line before each operator of a precedence, so many levels deeper than the lines
+-- in the
+-- innermost are; or a bracket or a block that is open in them
+pub data Operands : Type 0 where
+  parted : ℕ → ℕ → Operands
+  within : Operands
+
+-- what is open, the operands that go on, the innermost first, the depth of the line, what the last
+-- token is to what follows, whether operands may begin with the next token, whether the last
+-- attribute
+-- is one of a statement, a declaration or a member, and whether the next `{` opens a structure
 pub record LayoutState : Type 0 where
   pub opened : Opened
+  pub operands : List Operands
   pub line : ℕ
   pub last : Role
+  pub fresh : Bool
   pub leading : Bool
   pub structure : Bool
 
 -- nothing is before the text
 abbrev pub start : LayoutState
-start = record { opened = []; line = 0; last = beginning; leading = false; structure = false }
+start = record {
+  opened = [];
+  operands = [];
+  line = 0;
+  last = beginning;
+  fresh = true;
+  leading = false;
+  structure = false;
+}
 
 -- the innermost is a bracket or a template list, and no block
 abbrev pub in_brackets : Opened → Bool
@@ -39,11 +58,12 @@ in_brackets opened = false
 
 -- the innermost is no bracket, or a bracket of a style
 pub data Enclosing : Type 0 where
-  no_bracket one_line own_lines item_lines : Enclosing
+  no_bracket one_line own_lines filled_lines item_lines : Enclosing
 
 abbrev pub enclosed_by : Style → Enclosing
 enclosed_by together = one_line
 enclosed_by as_written = own_lines
+enclosed_by filled = filled_lines
 enclosed_by item_by_item = item_lines
 
 abbrev pub enclosing : Opened → Enclosing
@@ -81,16 +101,66 @@ abbrev pub between_items : LayoutState → Role → Bool
 between_items state right = not (in_brackets state.opened)
     && (is right block_end || (begins_item state.last && not (is state.last attribute || is right else_word)))
 
+-- ---- operands
+
+-- the precedence before whose operators lines begin in the innermost operands that go on; none is 0
+abbrev pub parted_at : List Operands → ℕ
+parted_at (parted n more ∷ outer) = n
+parted_at operands = 0
+
+-- lines begin before operators there
+abbrev pub are_parted : List Operands → Bool
+are_parted operands = not (parted_at operands == 0)
+
+-- the operands outside of the innermost bracket or block go on, and none in it
+abbrev pub outside_operands : List Operands → List Operands
+outside_operands (parted n more ∷ outer) = outside_operands outer
+outside_operands operands = operands
+
+-- those that go on before an operator of a precedence: no operands with operators that bind
+-- stronger
+abbrev pub up_to : ℕ → List Operands → List Operands
+up_to n (parted m more ∷ outer) = if nat_lt n m then up_to n outer else parted m more ∷ outer
+up_to n operands = operands
+
+-- those that go on before a token, an operator that binds so or none
+abbrev pub operands_before : List Operands → Role → ℕ → List Operands
+operands_before operands right binds =
+    if ends_operands right then outside_operands operands
+    else if is right binary then up_to binds operands
+    else operands
+
+-- those that go on after a token; none does after a block
+abbrev pub operands_after : List Operands → Role → List Operands
+operands_after operands right =
+    if opens right then within ∷ operands
+    else if is right block_end then outside_operands (drop 1 operands)
+    else if closes right then drop 1 operands
+    else operands
+
+-- operands may begin after a token: it is in no operand, and no operator in the middle of a line
+abbrev pub fresh_after : List Operands → Role → ℕ → Bool
+fresh_after operands right class = if is right binary then precedence right class == parted_at operands
+    else not (is_in_operand right)
+
 -- ---- depths
+
+-- how many levels deeper the lines in operands are
+abbrev pub operand_levels : List Operands → ℕ
+operand_levels (parted n more ∷ outer) = more
+operand_levels operands = 0
 
 -- a line begins as deep as what is in the innermost: in brackets, where a statement, a
 -- declaration, a member or a clause begins, and before `{`
 abbrev pub is_at_depth : LayoutState → Role → Bool
 is_at_depth state right = in_brackets state.opened || (begins state || is right block_start)
 
--- where one of these goes on, it is one level deeper
+-- where one of these goes on, it is one level deeper; or as many as in the operands that go on
 abbrev pub depth_within : LayoutState → Role → ℕ
-depth_within state right = if is_at_depth state right then inner_depth state.opened else suc (inner_depth state.opened)
+depth_within state right =
+    if are_parted state.operands then operand_levels state.operands + inner_depth state.opened
+    else if is_at_depth state right then inner_depth state.opened
+    else suc (inner_depth state.opened)
 
 -- a line that begins with a closing bracket is as deep as the line of the opening one
 abbrev pub depth_of : LayoutState → Role → ℕ
@@ -154,8 +224,10 @@ abbrev pub after_token : LayoutState → ℕ → ℕ → Role → Style → Layo
 after_token state line class right style =
     record {
       opened = opened_after_token state line right style;
+      operands = operands_after state.operands right;
       line = line;
       last = last_after state right;
+      fresh = fresh_after state.operands right class;
       leading = leading_after state right;
       structure = structure_after state class right;
     }

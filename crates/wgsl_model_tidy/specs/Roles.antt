@@ -1,5 +1,5 @@
 -- What a token does where it is, by its class and by whether an operand ends before it.
-use Rattle.std.specs.Prelude.{ℕ, Bool, true, false, ◌==◌, if◌then◌else◌, [], ◌∷◌}
+use Rattle.std.specs.Prelude.{ℕ, Bool, true, false, ◌==◌, if◌then◌else◌, List, [], ◌∷◌}
 use Rattle.grammar.specs.Grammar.{is_among}
 use Rattle.wgsl_model.specs.Tokens.ClassTable.{SymAnd, SymAndAnd, SymAttr, SymForwardSlash, SymBang, SymBracketLeft, SymBracketRight, SymBraceLeft, SymBraceRight, SymColon, SymComma, SymEqual, SymEqualEqual, SymNotEqual, SymGreaterThan, SymGreaterThanEqual, SymShiftRight, SymLessThan, SymLessThanEqual, SymShiftLeft, SymModulo, SymMinus, SymMinusMinus, SymPeriod, SymPlus, SymPlusPlus, SymOr, SymOrOr, SymParenLeft, SymParenRight, SymSemicolon, SymStar, SymTilde, SymXor, SymPlusEqual, SymMinusEqual, SymTimesEqual, SymDivisionEqual, SymModuloEqual, SymAndEqual, SymOrEqual, SymXorEqual, SymShiftRightAssign, SymShiftLeftAssign, KwDiagnostic, KwElse, KwFalse, KwTrue, Ident, ReservedWord, AbstractInt, I32, U32, AbstractFloat, F32, F16, TemplateArgsStart, TemplateArgsEnd}
 
@@ -18,8 +18,8 @@ pub data Role : Type 0 where
   comma semicolon colon period at : Role
   -- an operator before its operand: `-`, `&`, or another
   minus ampersand prefix : Role
-  -- an operator between operands, or of an assignment
-  binary : Role
+  -- an operator between operands; one of an assignment
+  binary assign : Role
   -- `++` or `--` of an increment or a decrement
   step : Role
   -- after it only: nothing; the end of a statement, a declaration or a member; the name of an
@@ -48,10 +48,11 @@ role_number minus = 16
 role_number ampersand = 17
 role_number prefix = 18
 role_number binary = 19
-role_number step = 20
-role_number beginning = 21
-role_number item_end = 22
-role_number attribute = 23
+role_number assign = 20
+role_number step = 21
+role_number beginning = 22
+role_number item_end = 23
+role_number attribute = 24
 
 -- it is this one
 abbrev pub is : Role → Role → Bool
@@ -65,6 +66,13 @@ ends_operand number = true
 ends_operand closing = true
 ends_operand template_end = true
 ends_operand role = false
+
+-- it is a name or a number
+abbrev pub is_literal : Role → Bool
+is_literal name = true
+is_literal unsuffixed = true
+is_literal number = true
+is_literal role = false
 
 -- an operand can begin with it
 abbrev pub begins_operand : Role → Bool
@@ -128,15 +136,19 @@ begins_item block_end = true
 begins_item attribute = true
 begins_item role = false
 
--- the operators that are between operands alone, and those of assignments
+-- the operators that are between operands alone
 abbrev pub is_operator : ℕ → Bool
 is_operator class =
     is_among class (SymAndAnd ∷ SymOrOr ∷ SymOr ∷ SymXor ∷ SymPlus ∷ SymForwardSlash ∷ SymModulo
-    ∷ SymShiftLeft ∷ SymShiftRight ∷
-    SymLessThan ∷ SymLessThanEqual ∷ SymGreaterThan ∷ SymGreaterThanEqual ∷ SymEqualEqual ∷ SymNotEqual ∷ SymEqual ∷
-    SymPlusEqual ∷ SymMinusEqual ∷ SymTimesEqual ∷ SymDivisionEqual ∷ SymModuloEqual ∷ SymAndEqual
-    ∷ SymOrEqual ∷ SymXorEqual ∷
-    SymShiftRightAssign ∷ SymShiftLeftAssign ∷ [])
+    ∷ SymShiftLeft ∷ SymShiftRight
+    ∷ SymLessThan ∷ SymLessThanEqual ∷ SymGreaterThan ∷ SymGreaterThanEqual ∷ SymEqualEqual ∷ SymNotEqual ∷ [])
+
+-- those of assignments
+abbrev pub is_assignment : ℕ → Bool
+is_assignment class =
+    is_among class
+    (SymEqual ∷ SymPlusEqual ∷ SymMinusEqual ∷ SymTimesEqual ∷ SymDivisionEqual ∷ SymModuloEqual ∷ SymAndEqual
+    ∷ SymOrEqual ∷ SymXorEqual ∷ SymShiftRightAssign ∷ SymShiftLeftAssign ∷ [])
 
 -- `-`, `&` and `*` are between operands after an operand, else before one
 abbrev pub sign_role : Bool → ℕ → Role
@@ -166,4 +178,54 @@ role_of after_operand class =
     else if is_among class (SymBang ∷ SymTilde ∷ []) then prefix
     else if is_among class (SymPlusPlus ∷ SymMinusMinus ∷ []) then step
     else if is_operator class then binary
+    else if is_assignment class then assign
     else word
+
+-- ---- precedences (WGSL, "Operator Precedence and Associativity")
+
+-- how an operator between operands binds, the weakest first: `||`, `&&`, those on bits,
+-- comparisons,
+-- shifts, sums, products; no other is one
+abbrev pub precedence : Role → ℕ → ℕ
+precedence binary class =
+    if class == SymOrOr then 1
+    else if class == SymAndAnd then 2
+    else if is_among class (SymOr ∷ SymXor ∷ SymAnd ∷ []) then 3
+    else if is_among class (SymShiftLeft ∷ SymShiftRight ∷ []) then 5
+    else if is_among class (SymPlus ∷ SymMinus ∷ SymMinusMinus ∷ []) then 6
+    else if is_among class (SymStar ∷ SymForwardSlash ∷ SymModulo ∷ []) then 7
+    else 4
+precedence role class = 0
+
+-- all of them, the weakest first
+abbrev pub precedences : List ℕ
+precedences = 1 ∷ 2 ∷ 3 ∷ 4 ∷ 5 ∷ 6 ∷ 7 ∷ []
+
+-- an item or a bracket ends with it, a block begins or ends, or something is assigned
+abbrev pub ends_item : Role → Bool
+ends_item comma = true
+ends_item semicolon = true
+ends_item closing = true
+ends_item template_end = true
+ends_item block_start = true
+ends_item block_end = true
+ends_item assign = true
+ends_item role = false
+
+-- operands end with it
+abbrev pub ends_operands : Role → Bool
+ends_operands colon = true
+ends_operands word = true
+ends_operands else_word = true
+ends_operands at = true
+ends_operands role = ends_item role
+
+-- it is in the middle of an operand
+abbrev pub is_in_operand : Role → Bool
+is_in_operand period = true
+is_in_operand at = true
+is_in_operand step = true
+is_in_operand minus = true
+is_in_operand ampersand = true
+is_in_operand prefix = true
+is_in_operand role = ends_operand role

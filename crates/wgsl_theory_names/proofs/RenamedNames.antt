@@ -120,7 +120,8 @@ module _ (f : Renaming) where
   attribute_renamed (attribute.interpolate j) = refl
   attribute_renamed (attribute.workgroup_size w) = λ i. node_renamed w.x i
       then maybe_node_renamed w.y i then maybe_node_renamed w.z i
-  attribute_renamed (attribute.type_constraint t) = λ i. used (f t.ident) then each_renamed type_names (renamed_type f) type_renamed t.variants i
+  attribute_renamed (attribute.type_constraint t) =
+      λ i. used (f t.ident) then each_renamed type_names (renamed_type f) type_renamed t.variants i
   attribute_renamed (attribute.custom c) =
       maybe_stays (each (names_in unknown)) (each_stays (names_in unknown) node_stays) c.arguments
 
@@ -234,8 +235,10 @@ module _ (f : Renaming) where
           λ i. node_renamed e i then attributes_renamed attributes i then clauses_renamed clauses i
 
       switch_clause_renamed : Commutes switch_clause_names (tree.changed_switch_clause (renaming f))
-      switch_clause_renamed (tree.switch_clause attributes selectors body) = λ i. attributes_renamed attributes i
-          then each_renamed selector_names (renamed_selector f) selector_renamed selectors i then compound_renamed body i
+      switch_clause_renamed (tree.switch_clause attributes selectors body) =
+          λ i. attributes_renamed attributes i
+          then each_renamed selector_names (renamed_selector f) selector_renamed selectors i
+          then compound_renamed body i
 
       loop_renamed : Commutes loop_names (tree.changed_loop (renaming f))
       loop_renamed (tree.repeat (tree.compound_statement attributes ss) last) = λ i. attributes_renamed attributes i
@@ -244,7 +247,8 @@ module _ (f : Renaming) where
       continuing_renamed : Commutes continuing_names (tree.changed_continuing (renaming f))
       continuing_renamed (tree.continuing attributes (tree.compound_statement block_attributes ss) break_if) =
           λ i. attributes_renamed attributes i then attributes_renamed block_attributes i
-          then scope (statements_renamed ss i then maybe_renamed break_if_names (renamed_attributed f (renamed_break_if f)) break_if_renamed break_if i)
+          then scope (statements_renamed ss i then maybe_renamed break_if_names
+          (renamed_attributed f (renamed_break_if f)) break_if_renamed break_if i)
 
       for_renamed : Commutes for_names (tree.changed_for (renaming f))
       for_renamed (tree.repeat_for initializer condition update body) = λ i. scope (part_renamed initializer i

@@ -1,4 +1,5 @@
--- What uses may refer to is the same after a renaming, for declarations, uses and scopes of any shape.
+-- What uses may refer to is the same after a renaming, for declarations, uses and scopes of any
+-- shape.
 use Rattle.std.proofs.Common.{◌≡◌, ℕ, List, [], ◌∷◌, ◌++◌, map, Bool, true, false, Option, Some, None, IfSome, refl, sym, ap, ◌∙◌, if◌then◌else◌}
 use Rattle.std.specs.Str.{bytes_eq}
 use Rattle.std.specs.Option.{option_map}

@@ -6,7 +6,8 @@ use Rattle.wgsl_model.specs.Tokens.ClassTable.{LineComment}
 use Rattle.wgsl_model.specs.Tokens.Characters.{is_line_break}
 use Rattle.wgsl_model.specs.Tokens.Trivia.{Place, outside, in_line, in_block, second, out_of_block, first_or_zero}
 use Rattle.wgsl_model_tidy.specs.Pieces.{Piece, comment, comments, put, put_in_line, line_ends_at}
-use Rattle.wgsl_model_tidy.specs.LaidOut.{is_comment, is_followed}
+use Rattle.wgsl_model_tidy.specs.Ahead.{is_comment}
+use Rattle.wgsl_model_tidy.specs.LaidOut.{is_followed}
 use Rattle.wgsl_theory_tidy.proofs.Comments.{piece}
 
 put_followed : (c : ℕ) (ps : List Piece) → is_followed (put c ps) ≡ is_followed ps
@@ -48,7 +49,8 @@ none_after following h outside n (c ∷ cs) =
     (put_none c (comments following (second in_line) (suc n) cs) (none_after following h (second in_line) n cs))
     (either_none (c == 47 && first_or_zero cs == 42) (put c (comments following (second (in_block 0))
     (suc n) cs)) (comments following outside (suc n + line_ends_at c cs) cs)
-    (put_none c (comments following (second (in_block 0)) (suc n) cs) (none_after following h (second (in_block 0)) n cs))
+    (put_none c (comments following (second (in_block 0)) (suc n) cs)
+    (none_after following h (second (in_block 0)) n cs))
     (ap (λ m. is_followed (comments following outside m cs)) (one_more n (line_ends_at c cs))
     ∙ none_after following h outside (n + line_ends_at c cs) cs))
 none_after following h in_line n [] = after_end n _

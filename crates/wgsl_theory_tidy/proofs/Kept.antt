@@ -22,16 +22,14 @@ pub mod Fitting
 pub mod NeatPieces
 pub mod Relaid
 mod RelaidEnds
-mod PieceSpots
-pub mod BracketRoles
-mod Breaks
-mod OneLine
-mod OwnLines
-mod Settled
-mod SettledJoints
+mod MeasuredTexts
+mod PlainAhead
+mod AheadStates
+mod AheadSame
+mod RowsAgain
+mod LinesAgain
+mod StylesAgain
 mod GapsAgain
-pub mod ItemLines
-mod RelaidBrackets
 mod RelaidAgain
 pub mod LaidTrails
 pub mod LaidTokens

@@ -8,7 +8,7 @@ use Rattle.wgsl_model.specs.Tokens.Trivia.{Place, outside, in_line, in_block, se
 use Rattle.wgsl_model_tidy.specs.Pieces.{Piece, OpenComment, comment, comments, put, put_in_line, line_ends_at}
 use Rattle.wgsl_model_tidy.specs.Roles.{Role}
 use Rattle.wgsl_model_tidy.specs.Open.{LayoutState, role_in}
-use Rattle.wgsl_model_tidy.specs.LaidOut.{operand_follows, next_role, in_line_of, is_comment}
+use Rattle.wgsl_model_tidy.specs.Ahead.{operand_follows, next_role, is_comment}
 
 -- what is known of pieces is the same with a character more in the first one, and with a comment
 -- before them
@@ -104,7 +104,7 @@ pub operand_after : (operand : Bool) (following : ℕ → List Piece)
 operand_after operand following h p n text = known_after operand_follows operand_passes operand following h p n text
 
 -- the depth of the line does not matter for what it does
-pub next_in_line : (s : LayoutState) (depth : ℕ) (ps : List Piece) → next_role (in_line_of s depth) ps ≡ next_role s ps
+pub next_in_line : (s : LayoutState) (depth : ℕ) (ps : List Piece) → next_role (record s { line = depth }) ps ≡ next_role s ps
 next_in_line s depth [] = refl
 next_in_line s depth (p ∷ ps) =
     ap (λ r. cond (is_comment p.class) r (role_in s p.class (operand_follows ps))) (next_in_line s depth ps)

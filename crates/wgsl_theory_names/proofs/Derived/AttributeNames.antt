@@ -15,7 +15,8 @@ use Rattle.wgsl_model_names.specs.Renamed.{Renaming, renamed_expression, renamed
 
 module _ (f : Renaming) where
   -- ---- names and types in arguments
-  name_in_renamed : (e : Expression) → untemplated_name_in (renamed_expression f e) ≡ option_map f (untemplated_name_in e)
+  name_in_renamed : (e : Expression)
+      → untemplated_name_in (renamed_expression f e) ≡ option_map f (untemplated_name_in e)
   name_in_renamed (type_or_identifier (type_expression name no_template)) = refl
   name_in_renamed e = refl
 
@@ -127,7 +128,8 @@ module _ (f : Renaming) where
   type_turns None = tt
   type_turns (Some []) = tt
   type_turns (Some (t ∷ [])) = tt
-  type_turns (Some (t ∷ (c ∷ []))) = type_of_turns (untemplated_name t) _ (variants c) _ (name_renamed t) (variants_renamed c)
+  type_turns (Some (t ∷ (c ∷ []))) = type_of_turns (untemplated_name t) _ (variants c) _
+      (name_renamed t) (variants_renamed c)
   type_turns (Some (t ∷ (c ∷ (x ∷ es)))) = tt
 
   -- whatever the name

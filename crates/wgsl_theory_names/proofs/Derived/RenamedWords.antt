@@ -51,7 +51,8 @@ identifier_kind x (t, tokens, class, payload, front) =
     subst IsOwnKind (ap (word_of t.class) payload)
     (own_kind t (module_words (chars x) (t ∷ []) finished tokens).0 class)
 
-pub given_kind : (t : Token) → IsWord t → t.class ≡ Ident → (y : List ℕ) → (y ≡ text_of t) ⊎ IsIdentifier y → IsOwnKind y
+pub given_kind : (t : Token) → IsWord t → t.class ≡ Ident → (y : List ℕ)
+    → (y ≡ text_of t) ⊎ IsIdentifier y → IsOwnKind y
 given_kind t word class y (inl same) = subst IsOwnKind (sym same) (own_kind t word class)
 given_kind t word class y (inr identifier) = identifier_kind y identifier
 

@@ -182,7 +182,12 @@ rules ident v xs ys here d known us e =
     }
 rules n v xs ys here d known us e =
     let a = by_class (written n) (rule_by_class n known) v xs ys d us e in
-    record { value = a.value; rest = a.rest; same = a.same; derived = roll checking written n a.value us a.rest a.derived }
+    record {
+      value = a.value;
+      rest = a.rest;
+      same = a.same;
+      derived = roll checking written n a.value us a.rest a.derived;
+    }
 
 none_left : (ts : List Token) → classes ts ≡ [] → ts ≡ []
 none_left [] e = refl

@@ -68,8 +68,10 @@ module _ (source : List ℕ) (u : TranslationUnit) (h : IsUnit source u)
   -- the kinds that are written from a renamed module have the shape that lets a text have tokens of
   -- these kinds
   pub renamed_shape : IsWrittenShape outside 0 (canonical (renamed_unit f u))
-  renamed_shape = subst (IsWrittenShape outside 0) written (written_shape renamed_module.text renamed_module.its_unit
-      renamed_module.is_unit (module_words renamed_module.text renamed_module.is_unit.0 finished renamed_module.is_unit.1))
+  renamed_shape = subst (IsWrittenShape outside 0) written
+      (written_shape renamed_module.text renamed_module.its_unit
+      renamed_module.is_unit
+      (module_words renamed_module.text renamed_module.is_unit.0 finished renamed_module.is_unit.1))
 
   pub renamed_is_utf8 : is_utf8 (print_unit (renamed_unit f u)) ≡ true
   renamed_is_utf8 = subst (λ (text : List ℕ). is_utf8 text ≡ true) printed

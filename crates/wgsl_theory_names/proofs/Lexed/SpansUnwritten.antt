@@ -85,7 +85,8 @@ maybe_node_same : Unchanged (optional_tokens expression_node_tokens) (option_map
 maybe_node_same = optional_same expression_node_tokens bare_expression_node node_same
 
 -- ---- attributes
-further_argument_same : Unchanged (optional_tokens (after_comma expression_node_tokens)) (option_map bare_expression_node)
+further_argument_same : Unchanged (optional_tokens (after_comma expression_node_tokens))
+    (option_map bare_expression_node)
 further_argument_same None = refl
 further_argument_same (Some e) = λ i rest. plain SymComma ∷ node_same e i rest
 

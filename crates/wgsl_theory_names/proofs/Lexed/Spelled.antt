@@ -22,7 +22,7 @@ use Rattle.wgsl_theory_printed.proofs.Spelling.Ends.{IsNameText, name_stands}
 use Rattle.wgsl_theory_printed.proofs.Spelling.Pieces.{raw_blank}
 use Rattle.wgsl_theory_printed.proofs.Sound.Scanned.{word_classes, IsScanned, AllScanned, tokens_scanned}
 use Rattle.wgsl_model_tidy.specs.Pieces.{Piece, pieces}
-use Rattle.wgsl_model_tidy.specs.LaidOut.{first_spot}
+use Rattle.wgsl_model_tidy.specs.Open.{start}
 use Rattle.wgsl_theory_tidy.proofs.Kept.Neighbours.{parts}
 use Rattle.wgsl_theory_tidy.proofs.Kept.Parted.{token_again, start_again}
 use Rattle.wgsl_theory_tidy.proofs.Kept.Read.{read}
@@ -53,7 +53,7 @@ front k w text (is_end r) unmarked = absurd (true≢false unmarked)
 
 before_space : (k : Kind) (w rest : List ℕ) → IsToken k w rest → is_mark_role (role k.class) ≡ false → Spelled k
 before_space k w rest i m = as_word w m (λ more. front k w (32 ∷ more)
-    (token_again first_spot.state k false w rest (32 ∷ more) i (λ h. (parts _ w h).space)) m)
+    (token_again start k false w rest (32 ∷ more) i (λ h. (parts _ w h).space)) m)
 
 spelled : (k : Kind) (w rest : List ℕ) → IsToken k w rest → Spelled k
 spelled k w rest (is_word j v r m s e) = before_space k w rest (is_word j v r m s e) m
@@ -139,7 +139,7 @@ one_along k ks (as_start e) text h = (
     plain SymLessThan,
     60 ∷ (32 ∷ text),
     32 ∷ text,
-    start_again first_spot.state (32 ∷ text) (λ m. (parts _ (60 ∷ []) m).space),
+    start_again start (32 ∷ text) (λ m. (parts _ (60 ∷ []) m).space),
     refl,
     (refl, along_space ks text h),
   ),

@@ -8,10 +8,11 @@ use Rattle.wgsl_model_tidy.specs.Brackets.{Line, blank, begun, in_comment}
 use Rattle.wgsl_model_tidy.specs.Pieces.{Piece}
 use Rattle.wgsl_model_tidy.specs.Roles.{Role, beginning, closing, opening, is}
 use Rattle.wgsl_model_tidy.specs.Layout.{Layout, column_after}
-use Rattle.wgsl_model_tidy.specs.Open.{Open, Opened, Style, LayoutState, enclosing, between_items, outer_depth, depth_of, comment_depth, role_in, opened_after_token}
-use Rattle.wgsl_model_tidy.specs.LaidOut.{Gap, Last, token, line_comment, block_comment, leading_comment, open_comment, Spot, is_comment, operand_follows, next_role, owned, line_end, gap_before_comment, gap_before_token, gap_text, indentation, depth_after, piece_text, leads, comment_last, laid_from, ending}
+use Rattle.wgsl_model_tidy.specs.Open.{Open, Opened, Style, LayoutState, between_items, outer_depth, depth_of, comment_depth, role_in, opened_after_token}
+use Rattle.wgsl_model_tidy.specs.Ahead.{is_comment, operand_follows, next_role}
+use Rattle.wgsl_model_tidy.specs.LaidOut.{style_with, operands_with, between, counted, before_next, Gap, Last, token, line_comment, block_comment, leading_comment, open_comment, Spot, owned, line_end, gap_before_comment, gap_before_token, gap_text, indentation, depth_after, piece_text, leads, comment_last, laid_from, ending}
 use Rattle.wgsl_theory_tidy.proofs.Comments.{piece}
-use Rattle.wgsl_theory_tidy.proofs.Laid.{after_comment_at, after_token_at, style_at, token_laid}
+use Rattle.wgsl_theory_tidy.proofs.Laid.{after_comment_at, after_token_at, token_laid}
 use Rattle.wgsl_theory_tidy.proofs.Kept.Readings.{IsToken, token_piece}
 use Rattle.wgsl_theory_tidy.proofs.Kept.ClosedComments.{Closed, Unclosed, unclosed, AllClosedButLast, no_more, one_more, last_open}
 use Rattle.wgsl_theory_tidy.proofs.Kept.Gaps.{closed_is_comment, unclosed_is_comment}
@@ -27,39 +28,41 @@ use Rattle.wgsl_theory_tidy.proofs.Kept.AlignedGaps.{token_gapped, comment_gappe
 -- ---- comments
 
 -- the gap before a comment, the comment as it is written there, and the spot after it
-abbrev gap_there : Spot → ℕ → ℕ → List Piece → Gap
-gap_there spot class n ps = gap_before_comment spot (next_role spot.state ps) class
-    (owned spot (next_role spot.state ps) ps) n
+abbrev gap_there : Layout → Spot → ℕ → ℕ → List Piece → Gap
+gap_there layout spot class n ps = gap_before_comment spot (next_role spot.state ps) class
+    (owned layout spot (next_role spot.state ps) ps) n
 
 abbrev text_there : Layout → Spot → ℕ → List ℕ → ℕ → List Piece → List ℕ
-text_there layout spot class text n ps = piece_text layout spot (gap_there spot class n ps) (piece class text n)
+text_there layout spot class text n ps = piece_text layout spot (gap_there layout spot class n ps) (piece class text n)
 
 abbrev after_comment : Layout → Spot → ℕ → List ℕ → ℕ → List Piece → Spot
 after_comment layout spot class text n ps =
-    let gap = gap_there spot class n ps in
-    after_comment_at spot.state (depth_after gap spot.state.line)
+    let gap = gap_there layout spot class n ps in
+    after_comment_at spot (depth_after gap spot.state.line)
     (comment_last class (leads gap spot.last spot.state.last))
     (column_after layout spot.column (gap_text layout gap ++ text_there layout spot class text n ps))
 
 comment_laid : (layout : Layout) (spot : Spot) (class : ℕ) (text : List ℕ) (n : ℕ) (ps : List Piece)
     → is_comment class ≡ true
-    → laid_from layout spot (piece class text n ∷ ps) ≡ gap_text layout (gap_there spot class n ps)
+    → laid_from layout spot (piece class text n ∷ ps) ≡ gap_text layout (gap_there layout spot class n ps)
     ++ (text_there layout spot class text n ps ++ laid_from layout (after_comment layout spot class text n ps) ps)
 comment_laid layout spot class text n ps h = rw h refl
 
 -- over the gap before a comment
 comment_gap_over : (layout : Layout) (spot : Spot) (marks : List Bool) (l : Line) (opened : List Line)
     → Stands layout spot marks l → (right : Role) (class : ℕ) (own : Bool) (n : ℕ) (r : List ℕ)
-    → ((m : Line) → Before layout (comment_depth spot.state right) (depth_after
+    → ((m : Line) → Before layout (comment_depth (before_next spot right) right) (depth_after
     (gap_before_comment spot right class own n) spot.state.line) marks m → Aligned outside m opened r)
     → AlignedAfter spot.last l opened (gap_text layout (gap_before_comment spot right class own n) ++ r)
 comment_gap_over layout spot marks l opened s right class own n r k =
-    gap_over layout spot marks l opened s _ (comment_depth spot.state right)
+    gap_over layout spot marks l opened s _ (comment_depth (before_next spot right) right)
     (gap_before_comment spot right class own n)
-    (comment_gapped class spot.last spot.state.last own n (line_end (between_items spot.state right)
-    spot.last spot.state.last beginning n (comment_depth spot.state right)))
-    (comment_at_start class spot.last spot.state.last own n (line_end (between_items spot.state right)
-    spot.last spot.state.last beginning n (comment_depth spot.state right)))
+    (comment_gapped class spot.last spot.state.last own (counted spot n)
+    (line_end (between_items (before_next spot right) right)
+    spot.last spot.state.last beginning (counted spot n) (comment_depth (before_next spot right) right)))
+    (comment_at_start class spot.last spot.state.last own (counted spot n)
+    (line_end (between_items (before_next spot right) right)
+    spot.last spot.state.last beginning (counted spot n) (comment_depth (before_next spot right) right)))
     r k
 
 -- after a comment a line goes on, or one that begins in it
@@ -71,8 +74,8 @@ pub comment_step : (layout : Layout) (spot : Spot) (class : ℕ) (text : List �
     → AlignedAfter spot.last l opened (laid_from layout spot (piece class text n ∷ ps))
 comment_step layout spot class text n ps c marks l opened s k =
     let right = next_role spot.state ps in
-    let own = owned spot right ps in
-    let gap = gap_there spot class n ps in
+    let own = owned layout spot right ps in
+    let gap = gap_there layout spot class n ps in
     let written = text_there layout spot class text n ps in
     let after = after_comment layout spot class text n ps in
     subst (AlignedAfter spot.last l opened)
@@ -80,7 +83,7 @@ comment_step layout spot class text n ps c marks l opened s k =
     (comment_gap_over layout spot marks l opened s right class own n (written ++ laid_from layout after ps) (λ m b.
     comment_over class written (closed_text layout spot gap class text n c)
     (leads gap spot.last spot.state.last) m opened (laid_from layout after ps)
-    (k (entered m) (within (entered m) (after_entered layout (comment_depth spot.state right)
+    (k (entered m) (within (entered m) (after_entered layout (comment_depth (before_next spot right) right)
     (depth_after gap spot.state.line) marks m b)))
     (k in_comment (within in_comment hidden))))
 
@@ -93,8 +96,8 @@ open_step : (layout : Layout) (spot : Spot) (class : ℕ) (text : List ℕ) (n :
     → AlignedAfter spot.last l opened (laid_from layout spot (piece class text n ∷ []))
 open_step layout spot class text n u marks l opened s =
     let right = next_role spot.state [] in
-    let own = owned spot right [] in
-    let gap = gap_there spot class n [] in
+    let own = owned layout spot right [] in
+    let gap = gap_there layout spot class n [] in
     let written = text_there layout spot class text n [] in
     let whole : laid_from layout spot (piece class text n ∷ []) ≡ gap_text layout gap ++ written =
     comment_laid layout spot class text n [] (unclosed_is_comment class text u)
@@ -200,20 +203,20 @@ closing_aligns layout break depth marks ms os ls l c e s b (goes_on _ i) =
 abbrev pub after_token : Layout → Spot → ℕ → List ℕ → ℕ → List Piece → Spot
 after_token layout spot class w n ps =
     let right = role_in spot.state class (operand_follows ps) in
-    let gap = gap_before_token spot right n in
+    let gap = gap_before_token layout spot right n in
     let depth = depth_after gap spot.state.line in
     let column = column_after layout spot.column (gap_text layout gap ++ w) in
-    after_token_at spot.state depth class right column (style_at layout spot.state depth class right column ps)
+    after_token_at layout spot depth class right column
 
 token_laid_here : (layout : Layout) (spot : Spot) (class : ℕ) (w : List ℕ) (n : ℕ) (ps : List Piece)
     → is_comment class ≡ false
     → laid_from layout spot (piece class w n ∷ ps)
-    ≡ gap_text layout (gap_before_token spot (role_in spot.state class (operand_follows ps)) n)
+    ≡ gap_text layout (gap_before_token layout spot (role_in spot.state class (operand_follows ps)) n)
     ++ (w ++ laid_from layout (after_token layout spot class w n ps) ps)
 token_laid_here layout spot class w n ps h =
     let right = role_in spot.state class (operand_follows ps) in
     token_laid layout class h spot right [] w n ps refl ∙ append_assoc (gap_text layout
-    (gap_before_token spot right n)) w (laid_from layout (after_token layout spot class w n ps) ps)
+    (gap_before_token layout spot right n)) w (laid_from layout (after_token layout spot class w n ps) ps)
 
 -- a token that is no bracket changes no lines
 other_agrees : (layout : Layout) (state : LayoutState) (line : ℕ) (right : Role) (style : Style)
@@ -295,17 +298,19 @@ pub token_step : (layout : Layout) (spot : Spot) (k : Kind) (w : List ℕ) (n : 
     → AlignedAfter spot.last l ls (laid_from layout spot (token_piece k w n ∷ ps))
 token_step layout spot k w n ps h i marks ms l ls e a s next =
     let right = role_in spot.state k.class (operand_follows ps) in
-    let gap = gap_before_token spot right n in
+    let gap = gap_before_token layout spot right n in
     let after = after_token layout spot k.class w n ps in
     let depth = depth_after gap spot.state.line in
     let column = column_after layout spot.column (gap_text layout gap ++ w) in
-    let break = line_end (between_items spot.state right) spot.last spot.state.last right n
-    (depth_of spot.state right) in
+    let break = line_end (between_items (before_next spot right) right) spot.last spot.state.last right (counted spot n)
+    (depth_of (before_next spot right) right) in
     subst (AlignedAfter spot.last l ls) (sym (token_laid_here layout spot k.class w n ps h))
-    (gap_over layout spot marks l ls s _ (depth_of spot.state right) gap
-    (token_gapped (enclosing spot.state.opened) spot.last spot.state.last right n break)
-    (token_at_start (enclosing spot.state.opened) spot.last spot.state.last right n break)
+    (gap_over layout spot marks l ls s _ (depth_of (before_next spot right) right) gap
+    (token_gapped (between layout spot right) spot.last spot.state.last right (counted spot n) break)
+    (token_at_start (between layout spot right) spot.last spot.state.last right (counted spot n) break)
     (w ++ laid_from layout after ps)
-    (λ m b. in_its_line layout spot.state depth (style_at layout spot.state depth k.class right column ps) k
+    (λ m b. in_its_line layout (before_next spot right) depth
+    (style_with layout (operands_with layout (before_next spot right) depth column right spot.ahead)
+    depth column right spot.ahead) k
     (operand_follows ps) w (laid_from layout after ps) (word_of k w (laid_from layout after ps) i) i marks ms m ls e a b
     (λ x ns j c. next x ns (within x j) c)))

@@ -11,7 +11,8 @@ use Rattle.wgsl_model.specs.Tokens.TokenList.{IsTokenList}
 use Rattle.wgsl_model_tidy.specs.Kept.{unplaced}
 use Rattle.wgsl_model_tidy.specs.Brackets.{Line, blank, AlignsClosingBrackets}
 use Rattle.wgsl_model_tidy.specs.Layout.{Layout}
-use Rattle.wgsl_model_tidy.specs.LaidOut.{Spot, operand_follows, first_spot, laid_from, laid_out}
+use Rattle.wgsl_model_tidy.specs.Ahead.{operand_follows}
+use Rattle.wgsl_model_tidy.specs.LaidOut.{Spot, first_spot, laid_from, laid_out}
 use Rattle.wgsl_model_tidy.specs.Pieces.{Piece, pieces}
 use Rattle.wgsl_theory_tidy.proofs.Kept.Read.{read}
 use Rattle.wgsl_theory_tidy.proofs.Kept.Readings.{IsToken, token_piece, Reads, reads_end, reads_token}
@@ -76,4 +77,5 @@ pub closing_brackets : (layout : Layout) (source : List ℕ) (ts : List Token)
 closing_brackets layout source ts h m =
     pairs_aligned (laid_out layout (pieces source ts))
     (aligned layout source (map unplaced ts) (pieces source ts) (read source ts h) [] (nested_kinds [] ts
-    (nested_tokens ts m)) first_spot (blank []) [] (at_start refl refl refl refl) (agree_none [] []))
+    (nested_tokens ts m)) (first_spot layout (pieces source ts)) (blank []) []
+    (at_start refl refl refl refl) (agree_none [] []))

@@ -13,7 +13,7 @@ use Rattle.wgsl_theory_tidy.proofs.Moved.Moved.{moved_unit}
 use Rattle.wgsl_model_tidy.specs.Pieces.{pieces}
 use Rattle.wgsl_model_tidy.specs.NonBlank.{non_blank}
 use Rattle.wgsl_model_tidy.specs.Layout.{Newlines, auto, lf, crlf, Layout}
-use Rattle.wgsl_model_tidy.specs.LaidOut.{first_spot, laid_out}
+use Rattle.wgsl_model_tidy.specs.LaidOut.{laid_out}
 use Rattle.wgsl_model_tidy.specs.Formatted.{mark_of, unmarked, begins_crlf, ends_crlf, with_crlf, with_line_ends, formatted}
 use Rattle.wgsl_model_tidy.specs.Kept.{unplaced, class_and_text, Keeps}
 use Rattle.wgsl_theory_tidy.proofs.Kept.NonBlankOf.{joined}
@@ -24,7 +24,7 @@ use Rattle.wgsl_theory_tidy.proofs.Kept.CrlfTrivia.{crlf_other}
 use Rattle.wgsl_theory_tidy.proofs.Kept.CrlfTokens.{along_crlf}
 use Rattle.wgsl_theory_tidy.proofs.Kept.CrlfPieces.{HasNoCrlf, crlf_piece}
 use Rattle.wgsl_theory_tidy.proofs.Kept.CrlfReads.{reads_crlf, read_once}
-use Rattle.wgsl_theory_tidy.proofs.Kept.CrlfShown.{laid_same}
+use Rattle.wgsl_theory_tidy.proofs.Kept.CrlfShown.{laid_out_same}
 use Rattle.wgsl_theory_tidy.proofs.Kept.CrlfSame.{all_same, same_pieces, same_blank}
 use Rattle.wgsl_theory_tidy.proofs.Kept.Marks.{read_no_mark}
 
@@ -133,7 +133,7 @@ with_crlf_too layout source ts text h k =
       same_characters = same_blank text ∙ k.same_characters;
       same_tokens = found.2;
       same_pieces = ap (map class_and_text) same ∙ same_pieces (pieces text k.after) alike ∙ k.same_pieces;
-      laid = ap (laid_out layout) same ∙ laid_same layout (pieces text k.after) alike first_spot ∙ k.again;
+      laid = ap (laid_out layout) same ∙ laid_out_same layout (pieces text k.after) alike ∙ k.again;
     }
 
 with_ends : (layout : Layout) (source : List ℕ) (ts : List Token) (text : List ℕ)

@@ -5,7 +5,8 @@ use Rattle.wgsl_model.specs.Tokens.ClassTable.{LineComment, BlockComment}
 use Rattle.wgsl_model.specs.Tokens.Trivia.{outside, in_block, after_trivia}
 use Rattle.wgsl_model_tidy.specs.Pieces.{Piece, OpenComment, comments}
 use Rattle.wgsl_model_tidy.specs.Layout.{Layout}
-use Rattle.wgsl_model_tidy.specs.LaidOut.{Gap, closed, blank, broken, gap_text, indentation, is_comment}
+use Rattle.wgsl_model_tidy.specs.Ahead.{is_comment}
+use Rattle.wgsl_model_tidy.specs.LaidOut.{Gap, closed, blank, broken, gap_text, indentation}
 use Rattle.wgsl_theory_tidy.proofs.Levels.{IsIndent, no_indent, one_space, one_tab, indentation_indent}
 use Rattle.wgsl_theory_tidy.proofs.Comments.{piece, no_comment, trimmed, OnLine, AtLineEnd, line_comment, whole_line, whole_block}
 use Rattle.wgsl_theory_tidy.proofs.Kept.ClosedComments.{Closed, closed_line, closed_block, Unclosed, unclosed}

@@ -3,12 +3,9 @@ use Rattle.std.proofs.Common.{◌≡◌, ℕ, zero, suc, ◌&&◌, ◌||◌, ◌
 use Rattle.std.proofs.lemmas.Bool.{and_parts, true≢false}
 use Rattle.wgsl_model.specs.Tokens.ClassTable.{LineComment}
 use Rattle.wgsl_model_tidy.specs.Roles.{Role, beginning, opening, template_start, is}
-use Rattle.wgsl_model_tidy.specs.Joints.{Joint, line, nothing, space, nothing_or_line, space_or_line, joint}
-use Rattle.wgsl_model_tidy.specs.Open.{Enclosing}
-use Rattle.wgsl_model_tidy.specs.LaidOut.{Gap, closed, blank, broken, Last, token, line_comment, block_comment, leading_comment, open_comment, kept_gap, joint_gap, after_leading, token_gap, comment_gap, comment_after}
+use Rattle.wgsl_model_tidy.specs.Joints.{Joint, line, nothing, space, nothing_or_line, space_or_line}
+use Rattle.wgsl_model_tidy.specs.LaidOut.{Gap, closed, blank, broken, Last, token, line_comment, block_comment, leading_comment, open_comment, kept_gap, joint_gap, after_comment, after_leading, token_gap, comment_gap, comment_after}
 use Rattle.wgsl_theory_tidy.proofs.Kept.Gaps.{gap_ends}
-use Rattle.wgsl_theory_tidy.proofs.Kept.Settled.{settled_enclosing}
-use Rattle.wgsl_theory_tidy.proofs.Kept.SettledJoints.{settled_joint, Settles, same, spaced, closed_up, token_settles, comment_settles, leading_same}
 
 -- a line break at which an empty line can stay, or cannot
 abbrev pub break_for : Bool → ℕ → ℕ → Gap
@@ -43,46 +40,35 @@ broken_again : (stays : Bool) (depth n : ℕ) (other : Gap) → kept_gap (gap_en
 broken_again stays depth n other = some_ends (nat_lt 1 n && stays) depth
     (break_for stays depth (gap_ends (break_for stays depth n))) other ∙ break_again stays depth n
 
-joint_again : (j k : Joint) → Settles j k → (stays : Bool) (depth n : ℕ)
-    → joint_gap k (gap_ends (joint_gap j n (break_for stays depth n))) (break_for stays depth
+joint_again : (j : Joint) (stays : Bool) (depth n : ℕ)
+    → joint_gap j (gap_ends (joint_gap j n (break_for stays depth n))) (break_for stays depth
     (gap_ends (joint_gap j n (break_for stays depth n)))) ≡ joint_gap j n (break_for stays depth n)
-joint_again _ _ (same line) stays depth n = break_again stays depth n
-joint_again _ _ (same nothing) stays depth n = refl
-joint_again _ _ (same space) stays depth n = refl
-joint_again _ _ (same nothing_or_line) stays depth n = kept_again stays depth n closed refl
-joint_again _ _ (same space_or_line) stays depth n = kept_again stays depth n blank refl
-joint_again _ _ (spaced) stays depth n = broken_again stays depth n blank
-joint_again _ _ (closed_up) stays depth n = broken_again stays depth n closed
+joint_again line stays depth n = break_again stays depth n
+joint_again nothing stays depth n = refl
+joint_again space stays depth n = refl
+joint_again nothing_or_line stays depth n = kept_again stays depth n closed refl
+joint_again space_or_line stays depth n = kept_again stays depth n blank refl
 
 -- nothing at the beginning of the text, else the gap for a joint
-begun_again : (b : Bool) (j k : Joint) → Settles j k → (stays : Bool) (depth n : ℕ)
+begun_again : (b : Bool) (j : Joint) (stays : Bool) (depth n : ℕ)
     → cond b closed
-    (joint_gap k (gap_ends (cond b closed (joint_gap j n (break_for stays depth n))))
+    (joint_gap j (gap_ends (cond b closed (joint_gap j n (break_for stays depth n))))
     (break_for stays depth (gap_ends (cond b closed (joint_gap j n (break_for stays depth n))))))
     ≡ cond b closed (joint_gap j n (break_for stays depth n))
-begun_again true j k s stays depth n = refl
-begun_again false j k s stays depth n = joint_again j k s stays depth n
+begun_again true j stays depth n = refl
+begun_again false j stays depth n = joint_again j stays depth n
 
--- the gap before a token, where brackets that were written item by item keep their lines as they
--- are
-pub token_again : (inside : Enclosing) (last : Last) (left right : Role) (stays : Bool) (depth n : ℕ)
-    → token_gap (settled_enclosing inside) last left right
-    (gap_ends (token_gap inside last left right n (break_for stays depth n)))
-    (break_for stays depth (gap_ends (token_gap inside last left right n (break_for stays depth n))))
-    ≡ token_gap inside last left right n (break_for stays depth n)
-token_again inside token left right stays depth n = begun_again (is left beginning) _ _
-    (token_settles right _ _ (settled_joint inside left right)) stays depth n
-token_again inside line_comment left right stays depth n = break_again stays depth n
-token_again inside leading_comment left right stays depth n =
-    let j = after_leading (joint inside left right) right in
-    ap (λ k. joint_gap k (gap_ends (joint_gap j n (break_for stays depth n)))
-    (break_for stays depth (gap_ends (joint_gap j n (break_for stays depth n)))))
-    (leading_same right _ _ (settled_joint inside left right))
-    ∙ joint_again j j (same j) stays depth n
-token_again inside block_comment left right stays depth n = joint_again _ _
-    (comment_settles right _ _ (settled_joint inside left right)) stays depth n
-token_again inside open_comment left right stays depth n = joint_again _ _
-    (comment_settles right _ _ (settled_joint inside left right)) stays depth n
+-- the gap before a token
+pub token_again : (between : Joint) (last : Last) (left right : Role) (stays : Bool) (depth n : ℕ)
+    → token_gap between last left right
+    (gap_ends (token_gap between last left right n (break_for stays depth n)))
+    (break_for stays depth (gap_ends (token_gap between last left right n (break_for stays depth n))))
+    ≡ token_gap between last left right n (break_for stays depth n)
+token_again between token left right stays depth n = begun_again (is left beginning) between stays depth n
+token_again between line_comment left right stays depth n = break_again stays depth n
+token_again between leading_comment left right stays depth n = joint_again (after_leading between right) stays depth n
+token_again between block_comment left right stays depth n = joint_again (after_comment between right) stays depth n
+token_again between open_comment left right stays depth n = joint_again (after_comment between right) stays depth n
 
 -- a comment after a token, where it belongs to the next token again, or no more
 own_again : (class : ℕ) (left : Role) (own own' : Bool) (stays : Bool) (depth n : ℕ)

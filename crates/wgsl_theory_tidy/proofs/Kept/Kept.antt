@@ -27,20 +27,24 @@ laid_out_kept : (layout : Layout) (source : List ℕ) (ts : List Token) → IsTo
 laid_out_kept layout source ts h =
     let out = laid_out layout (pieces source ts) in
     let before = read source ts h in
-    let along = laid_along layout source (map unplaced ts) (pieces source ts) before first_spot in
+    let along = laid_along layout source (map unplaced ts) (pieces source ts) before
+    (first_spot layout (pieces source ts)) in
     let after = lexed (map unplaced ts) (same_shape source ts h) (width out) out along in
     let us = after.0 in
-    let same = laid_pieces layout source (map unplaced ts) (pieces source ts) before first_spot out
+    let same = laid_pieces layout source (map unplaced ts) (pieces source ts) before
+    (first_spot layout (pieces source ts)) out
     (map unplaced us) (pieces out us) (read out us after.1) refl after.2 in
     record {
       after = us;
       read_after = after.1;
       same_characters = same_characters layout source ts h;
       same_tokens = after.2;
-      same_pieces = ap (map class_and_text) same ∙ relaid_spelled layout first_spot (pieces source ts);
+      same_pieces = ap (map class_and_text) same
+          ∙ relaid_spelled layout (first_spot layout (pieces source ts)) (pieces source ts);
       again = ap (laid_out layout) same ∙ relaid_again layout (pieces source ts);
       along = along;
-      no_crlf = laid_no_crlf layout source (map unplaced ts) (pieces source ts) before first_spot;
+      no_crlf = laid_no_crlf layout source (map unplaced ts) (pieces source ts) before
+          (first_spot layout (pieces source ts));
     }
 
 pub kept : (layout : Layout) (source : List ℕ) (ts : List Token)

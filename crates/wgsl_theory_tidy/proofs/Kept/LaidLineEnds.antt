@@ -10,7 +10,8 @@ use Rattle.wgsl_model_tidy.specs.Pieces.{Piece, OpenComment}
 use Rattle.wgsl_model_tidy.specs.Roles.{Role, beginning, is}
 use Rattle.wgsl_model_tidy.specs.Layout.{Layout}
 use Rattle.wgsl_model_tidy.specs.Shown.{without_returns, is_space, has_stars, with_front, block_shown}
-use Rattle.wgsl_model_tidy.specs.LaidOut.{Gap, closed, blank, broken, Last, token, line_comment, block_comment, leading_comment, open_comment, Spot, next_role, gap_before, gap_text, indentation, begins_line, depth_after, piece_text, ending, laid_from}
+use Rattle.wgsl_model_tidy.specs.Ahead.{next_role}
+use Rattle.wgsl_model_tidy.specs.LaidOut.{Gap, closed, blank, broken, Last, token, line_comment, block_comment, leading_comment, open_comment, Spot, gap_before, gap_text, indentation, is_at_front, depth_after, piece_text, ending, laid_from}
 use Rattle.wgsl_theory_tidy.proofs.Levels.{IsIndent, no_indent, one_space, one_tab, both_indents, indentation_indent}
 use Rattle.wgsl_theory_tidy.proofs.Comments.{piece, OnLine}
 use Rattle.wgsl_theory_tidy.proofs.Kept.Bodies.{IsBody, body_end, text_end, body_opens, body_closes, body_other, first_same}
@@ -142,7 +143,7 @@ closed_without : (layout : Layout) (spot : Spot) (gap : Gap) (class : ℕ) (text
 closed_without layout spot gap class text n (closed_line xs h t) = subst HasNoCrlf
     (append-nil (47 ∷ (47 ∷ xs))) (clear_without (47 ∷ (47 ∷ xs)) (refl, (refl, on_line xs h)) [] tt)
 closed_without layout spot gap class text n (closed_block xs i) = block_clear _
-    (front_of layout (depth_after gap spot.state.line)) (begins_line gap spot.last spot.state.last) text
+    (front_of layout (depth_after gap spot.state.line)) (is_at_front gap spot.last spot.state.last) text
 
 closed_piece : (layout : Layout) (p : Piece) → Closed p.class p.text → IsClearPiece layout p
 closed_piece layout p c spot gap =
@@ -190,13 +191,14 @@ clear_laid : (layout : Layout) (ps : List Piece) → AllClear layout ps → (spo
     → HasNoCrlf (laid_from layout spot ps)
 clear_laid layout _ (none) spot = clear_ending spot.last spot.state.last
 clear_laid layout _ (one p ps h k) spot =
-    let gap = gap_before spot (next_role spot.state (p ∷ ps)) p ps in
+    let gap = gap_before layout spot (next_role spot.state (p ∷ ps)) p ps in
     clear_gap layout gap
     (piece_text layout spot gap p ++ laid_from layout (after_first layout spot p ps) ps)
     (h spot gap (laid_from layout (after_first layout spot p ps) ps)
     (clear_laid layout ps k (after_first layout spot p ps)))
 clear_laid layout _ (open_last text n) spot =
-    let gap = gap_before spot (next_role spot.state (piece OpenComment text n ∷ [])) (piece OpenComment text n) [] in
+    let gap = gap_before layout spot (next_role spot.state (piece OpenComment text n ∷ []))
+    (piece OpenComment text n) [] in
     clear_gap layout gap (without_returns text ++ [])
     (subst HasNoCrlf (sym (append-nil (without_returns text))) (no_returns text))
 

@@ -12,7 +12,8 @@ use Rattle.wgsl_model_tidy.specs.Pieces.{Piece, comments}
 use Rattle.wgsl_model_tidy.specs.Roles.{Role, beginning}
 use Rattle.wgsl_model_tidy.specs.Layout.{Layout}
 use Rattle.wgsl_model_tidy.specs.Open.{role_in, last_after}
-use Rattle.wgsl_model_tidy.specs.LaidOut.{token, Spot, operand_follows, gap_before_comment, laid_from, gap_text}
+use Rattle.wgsl_model_tidy.specs.Ahead.{operand_follows}
+use Rattle.wgsl_model_tidy.specs.LaidOut.{token, Spot, gap_before_comment, laid_from, gap_text}
 use Rattle.wgsl_theory_tidy.proofs.Kept.Touching.{Shaped}
 use Rattle.wgsl_theory_tidy.proofs.Kept.TokenRoles.{Starts, token_starts, starts_so}
 use Rattle.wgsl_theory_tidy.proofs.Kept.Parted.{PartsBefore, parts_before_token, parts_before_comment, parts_before_ending, token_again, start_again}
@@ -192,7 +193,8 @@ laid_pieces layout _ _ _ (reads_token trivia w rest k ks ps p i r) spot _ _ _
     let same = same_token k v more w text (subst (λ (m : Kind). IsToken m v more) kind g) l.is_token seen in
     let first : other ≡ l.trivia = same_before other l.trivia (w ++ text)
     (ap (λ xs. other ++ xs) (sym seen) ∙ q ∙ l.whole) in
-    let left : qs ≡ relaid layout l.following ps = laid_pieces layout rest ks ps r l.following more js qs x same.1 kinds in
+    let left : qs ≡ relaid layout l.following ps =
+    laid_pieces layout rest ks ps r l.following more js qs x same.1 kinds in
     ap (λ xs. comments (λ n. token_piece j v n ∷ qs) outside 0 xs) first
     ∙ ap (λ (m : Kind). comments (λ n. token_piece m v n ∷ qs) outside 0 l.trivia) kind
     ∙ ap (λ u. comments (λ n. token_piece k u n ∷ qs) outside 0 l.trivia) same.0

@@ -8,7 +8,7 @@ use Rattle.wgsl_model.specs.Tokens.Trivia.{outside, after_trivia}
 use Rattle.wgsl_theory_templates.proofs.Reaching.Reach.{role}
 use Rattle.wgsl_theory_templates.proofs.Lexed.RoleClasses.{is_mark_role}
 use Rattle.wgsl_theory_grammar.proofs.Tokens.Symbols.{none_valued}
-use Rattle.wgsl_model_tidy.specs.LaidOut.{is_comment}
+use Rattle.wgsl_model_tidy.specs.Ahead.{is_comment}
 use Rattle.wgsl_theory_tidy.proofs.Kept.TokenTexts.{cut_token}
 use Rattle.wgsl_theory_tidy.proofs.Kept.Readings.{IsToken, is_word, is_start, is_end, is_slash, is_slash_equal}
 

@@ -6,10 +6,11 @@ use Rattle.wgsl_model.specs.Tokens.Trivia.{outside, after_trivia}
 use Rattle.wgsl_model_tidy.specs.Pieces.{Piece, comments}
 use Rattle.wgsl_model_tidy.specs.Roles.{Role, beginning, is}
 use Rattle.wgsl_model_tidy.specs.Layout.{Layout, column_after}
-use Rattle.wgsl_model_tidy.specs.Open.{LayoutState, enclosing, between_items, depth_of, comment_depth, role_in, last_after}
-use Rattle.wgsl_model_tidy.specs.LaidOut.{Gap, broken, Last, token, line_comment, block_comment, leading_comment, open_comment, Spot, is_comment, next_role, owned, line_end, gap_before_comment, gap_before_token, gap_text, token_gap, comment_gap, depth_after, piece_text, leads, comment_last, laid_from, ending, operand_follows}
+use Rattle.wgsl_model_tidy.specs.Open.{LayoutState, between_items, depth_of, comment_depth, role_in, last_after}
+use Rattle.wgsl_model_tidy.specs.Ahead.{is_comment, next_role, operand_follows}
+use Rattle.wgsl_model_tidy.specs.LaidOut.{between, counted, before_next, Gap, broken, Last, token, line_comment, block_comment, leading_comment, open_comment, Spot, owned, line_end, gap_before_comment, gap_before_token, gap_text, token_gap, comment_gap, depth_after, piece_text, leads, comment_last, laid_from, ending}
 use Rattle.wgsl_theory_tidy.proofs.Comments.{piece, AtLineEnd, nothing_left}
-use Rattle.wgsl_theory_tidy.proofs.Laid.{after_comment_at, after_token_at, style_at}
+use Rattle.wgsl_theory_tidy.proofs.Laid.{after_comment_at, after_token_at}
 use Rattle.wgsl_theory_tidy.proofs.Kept.Readings.{token_piece}
 use Rattle.wgsl_theory_tidy.proofs.Kept.ClosedComments.{Closed, Unclosed, unclosed, AllClosed, AllClosedButLast, no_more, one_more, last_open}
 use Rattle.wgsl_theory_tidy.proofs.Kept.Gaps.{gap_ends, gap_passed, gap_counted, closed_counted, closed_passed, unclosed_counted, unclosed_passed, closed_is_comment, unclosed_is_comment, closed_begins, unclosed_begins}
@@ -24,10 +25,10 @@ use Rattle.wgsl_theory_tidy.proofs.Kept.NeatPieces.{NeatAt, token_gap_neat, comm
 abbrev spot_after_token : Layout → Spot → ℕ → List ℕ → ℕ → List Piece → Spot
 spot_after_token layout spot class w n ps =
     let right = role_in spot.state class (operand_follows ps) in
-    let gap = gap_before_token spot right n in
+    let gap = gap_before_token layout spot right n in
     let depth = depth_after gap spot.state.line in
     let column = column_after layout spot.column (gap_text layout gap ++ w) in
-    after_token_at spot.state depth class right column (style_at layout spot.state depth class right column ps)
+    after_token_at layout spot depth class right column
 
 -- a comment as it is written there
 abbrev comment_text : Layout → Spot → Role → ℕ → Bool → List ℕ → ℕ → List ℕ
@@ -37,19 +38,19 @@ comment_text layout spot right class own text n = piece_text layout spot
 abbrev spot_after_comment : Layout → Spot → Role → ℕ → Bool → List ℕ → ℕ → Spot
 spot_after_comment layout spot right class own text n =
     let gap = gap_before_comment spot right class own n in
-    after_comment_at spot.state (depth_after gap spot.state.line)
+    after_comment_at spot (depth_after gap spot.state.line)
     (comment_last class (leads gap spot.last spot.state.last))
     (column_after layout spot.column (gap_text layout gap ++ comment_text layout spot right class own text n))
 
 token_laid : (layout : Layout) (spot : Spot) (class : ℕ) (w : List ℕ) (n : ℕ) (ps : List Piece)
     → is_comment class ≡ false
     → laid_from layout spot (piece class w n ∷ ps)
-    ≡ gap_text layout (gap_before_token spot (role_in spot.state class (operand_follows ps)) n)
+    ≡ gap_text layout (gap_before_token layout spot (role_in spot.state class (operand_follows ps)) n)
     ++ (w ++ laid_from layout (spot_after_token layout spot class w n ps) ps)
 token_laid layout spot class w n ps h = shown ∙ ap with (token_text layout spot gap class w n h)
   where
     gap : Gap
-    gap = gap_before_token spot (role_in spot.state class (operand_follows ps)) n
+    gap = gap_before_token layout spot (role_in spot.state class (operand_follows ps)) n
 
     with : List ℕ → List ℕ
     with text = gap_text layout gap ++ (text ++ laid_from layout (spot_after_token layout spot class text n ps) ps)
@@ -60,12 +61,12 @@ token_laid layout spot class w n ps h = shown ∙ ap with (token_text layout spo
 token_relaid : (layout : Layout) (spot : Spot) (class : ℕ) (w : List ℕ) (n : ℕ) (ps : List Piece)
     → is_comment class ≡ false
     → relaid layout spot (piece class w n ∷ ps)
-    ≡ piece class w (gap_ends (gap_before_token spot (role_in spot.state class (operand_follows ps)) n))
+    ≡ piece class w (gap_ends (gap_before_token layout spot (role_in spot.state class (operand_follows ps)) n))
     ∷ relaid layout (spot_after_token layout spot class w n ps) ps
 token_relaid layout spot class w n ps h = shown ∙ ap with (token_text layout spot gap class w n h)
   where
     gap : Gap
-    gap = gap_before_token spot (role_in spot.state class (operand_follows ps)) n
+    gap = gap_before_token layout spot (role_in spot.state class (operand_follows ps)) n
 
     with : List ℕ → List Piece
     with text = piece class text (gap_ends gap) ∷ relaid layout (spot_after_token layout spot class text n ps) ps
@@ -76,17 +77,17 @@ token_relaid layout spot class w n ps h = shown ∙ ap with (token_text layout s
 comment_laid : (layout : Layout) (spot : Spot) (right : Role) (class : ℕ) (text : List ℕ) (n : ℕ)
     (ps : List Piece) → is_comment class ≡ true → next_role spot.state ps ≡ right
     → laid_from layout spot (piece class text n ∷ ps)
-    ≡ gap_text layout (gap_before_comment spot right class (owned spot right ps) n)
-    ++ (comment_text layout spot right class (owned spot right ps) text n
-    ++ laid_from layout (spot_after_comment layout spot right class (owned spot right ps) text n) ps)
+    ≡ gap_text layout (gap_before_comment spot right class (owned layout spot right ps) n)
+    ++ (comment_text layout spot right class (owned layout spot right ps) text n
+    ++ laid_from layout (spot_after_comment layout spot right class (owned layout spot right ps) text n) ps)
 comment_laid layout spot right class text n ps h e = rw (h, e) refl
 
 comment_relaid : (layout : Layout) (spot : Spot) (right : Role) (class : ℕ) (text : List ℕ) (n : ℕ)
     (ps : List Piece) → is_comment class ≡ true → next_role spot.state ps ≡ right
     → relaid layout spot (piece class text n ∷ ps)
-    ≡ piece class (comment_text layout spot right class (owned spot right ps) text n)
-    (gap_ends (gap_before_comment spot right class (owned spot right ps) n))
-    ∷ relaid layout (spot_after_comment layout spot right class (owned spot right ps) text n) ps
+    ≡ piece class (comment_text layout spot right class (owned layout spot right ps) text n)
+    (gap_ends (gap_before_comment spot right class (owned layout spot right ps) n))
+    ∷ relaid layout (spot_after_comment layout spot right class (owned layout spot right ps) text n) ps
 comment_relaid layout spot right class text n ps h e = rw (h, e) refl
 
 -- ---- after a line comment the line ends
@@ -97,21 +98,23 @@ broken_ends layout true depth r = refl
 broken_ends layout false depth r = refl
 
 token_gap_ends : (layout : Layout) (spot : Spot) (right : Role) (n : ℕ) → spot.last ≡ line_comment
-    → (r : List ℕ) → AtLineEnd (gap_text layout (gap_before_token spot right n) ++ r)
+    → (r : List ℕ) → AtLineEnd (gap_text layout (gap_before_token layout spot right n) ++ r)
 token_gap_ends layout spot right n e r =
-    let break = line_end (between_items spot.state right) spot.last spot.state.last right n
-    (depth_of spot.state right) in
-    subst (λ l. AtLineEnd (gap_text layout (token_gap (enclosing spot.state.opened) l spot.state.last
-    right n break) ++ r)) (sym e) (broken_ends layout _ (depth_of spot.state right) r)
+    let break = line_end (between_items (before_next spot right) right) spot.last spot.state.last right (counted spot n)
+    (depth_of (before_next spot right) right) in
+    subst (λ l. AtLineEnd (gap_text layout
+    (token_gap (between layout spot right) l spot.state.last right (counted spot n) break) ++ r))
+    (sym e) (broken_ends layout _ (depth_of (before_next spot right) right) r)
 
 comment_gap_ends : (layout : Layout) (spot : Spot) (right : Role) (class : ℕ) (own : Bool) (n : ℕ)
     → spot.last ≡ line_comment → (r : List ℕ)
     → AtLineEnd (gap_text layout (gap_before_comment spot right class own n) ++ r)
 comment_gap_ends layout spot right class own n e r =
-    let break = line_end (between_items spot.state right) spot.last spot.state.last beginning n
-    (comment_depth spot.state right) in
-    subst (λ l. AtLineEnd (gap_text layout (comment_gap class l spot.state.last own n break) ++ r))
-    (sym e) (broken_ends layout _ (comment_depth spot.state right) r)
+    let break = line_end (between_items (before_next spot right) right) spot.last spot.state.last
+    beginning (counted spot n)
+    (comment_depth (before_next spot right) right) in
+    subst (λ l. AtLineEnd (gap_text layout (comment_gap class l spot.state.last own (counted spot n) break) ++ r))
+    (sym e) (broken_ends layout _ (comment_depth (before_next spot right) right) r)
 
 -- a comment of this class is a line comment
 last_is_line : (class : ℕ) (leading : Bool) → class ≡ LineComment → comment_last class leading ≡ line_comment
@@ -132,7 +135,7 @@ token_next s class w n ps h = rw h refl
 -- a comment and with the comment
 pub data TrailFront (layout : Layout) (spot : Spot) (cs : List Piece) (right : Role) (m : ℕ)
     (trivia : List ℕ) : Type 0 where
-  token_front : cs ≡ [] → trivia ≡ gap_text layout (gap_before_token spot right m)
+  token_front : cs ≡ [] → trivia ≡ gap_text layout (gap_before_token layout spot right m)
       → TrailFront layout spot cs right m trivia
   comment_front : (class : ℕ) (own : Bool) (n : ℕ) (more : List ℕ)
       → trivia ≡ gap_text layout (gap_before_comment spot right class own n) ++ (47 ∷ more)
@@ -160,7 +163,7 @@ laid_token : (layout : Layout) (spot : Spot) (k : Kind) (w : List ℕ) (m : ℕ)
     → is_comment k.class ≡ false → LaidTrail layout spot [] k w m ps
 laid_token layout spot k w m ps h =
     let right = role_in spot.state k.class (operand_follows ps) in
-    let gap = gap_before_token spot right m in
+    let gap = gap_before_token layout spot right m in
     let following = spot_after_token layout spot k.class w m ps in
     let b : ℕ → List Piece = λ n. token_piece k w n ∷ relaid layout following ps in
     record {
@@ -189,13 +192,13 @@ laid_comment : (layout : Layout) (spot : Spot) (class : ℕ) (text : List ℕ) (
     → Closed class text
     → next_role spot.state (cs ++ (token_piece k w m ∷ ps)) ≡ role_in spot.state k.class (operand_follows ps)
     → LaidTrail layout (spot_after_comment layout spot (role_in spot.state k.class (operand_follows ps)) class
-    (owned spot (role_in spot.state k.class (operand_follows ps)) (cs ++ (token_piece k w m ∷ ps)))
+    (owned layout spot (role_in spot.state k.class (operand_follows ps)) (cs ++ (token_piece k w m ∷ ps)))
     text n) cs k w m ps → LaidTrail layout spot (piece class text n ∷ cs) k w m ps
 laid_comment layout spot class text n cs k w m ps c e t =
     let right = role_in spot.state k.class (operand_follows ps) in
     let all = cs ++ (token_piece k w m ∷ ps) in
-    let gap = gap_before_comment spot right class (owned spot right all) n in
-    let shown = comment_text layout spot right class (owned spot right all) text n in
+    let gap = gap_before_comment spot right class (owned layout spot right all) n in
+    let shown = comment_text layout spot right class (owned layout spot right all) text n in
     let b : ℕ → List Piece = λ i. token_piece k w i ∷ relaid layout t.following ps in
     let d : Closed class shown = closed_text layout spot gap class text n c in
     let is = closed_is_comment class shown d in
@@ -217,12 +220,12 @@ laid_comment layout spot class text n cs k w m ps c e t =
           (gap_ends gap) t.trivia (λ f. subst AtLineEnd (append-nil t.trivia) (ends [] f))
           ∙ ap (λ xs. piece class shown (gap_ends gap) ∷ xs) t.again
           ∙ sym (comment_relaid layout spot right class text n all is e);
-      front = comment_front class (owned spot right all) n (begins.0 ++ t.trivia)
+      front = comment_front class (owned layout spot right all) n (begins.0 ++ t.trivia)
           (ap (λ xs. gap_text layout gap ++ (xs ++ t.trivia)) begins.1);
       at_line_end = λ f r. subst AtLineEnd (joined (gap_text layout gap) shown t.trivia r)
-          (comment_gap_ends layout spot right class (owned spot right all) n f (shown ++ (t.trivia ++ r)));
+          (comment_gap_ends layout spot right class (owned layout spot right all) n f (shown ++ (t.trivia ++ r)));
       neat = λ r h. subst (NeatAt spot.last spot.state.last) (joined (gap_text layout gap) shown t.trivia r)
-          (comment_gap_neat layout spot right class (owned spot right all) n
+          (comment_gap_neat layout spot right class (owned layout spot right all) n
           (shown ++ (t.trivia ++ r)) (closed_neat class shown d
           (leads gap spot.last spot.state.last) spot.state.last (t.trivia ++ r) (t.neat r h)));
     }
@@ -234,7 +237,7 @@ laid_trail layout spot (c ∷ cs) k w m ps h e =
     laid_comment layout spot c.class c.text c.line_ends cs k w m ps h.0
     (trail_next spot.state cs (token_piece k w m ∷ ps) h.1 ∙ token_next spot.state k.class w m ps e)
     (laid_trail layout (spot_after_comment layout spot (role_in spot.state k.class
-    (operand_follows ps)) c.class (owned spot (role_in spot.state k.class (operand_follows ps))
+    (operand_follows ps)) c.class (owned layout spot (role_in spot.state k.class (operand_follows ps))
     (cs ++ (token_piece k w m ∷ ps))) c.text c.line_ends) cs k w m ps h.1 e)
 
 -- ---- comments after the last token
@@ -299,16 +302,17 @@ last_next s cs (last_open p u) = rw (unclosed_is_comment p.class p.text u) refl
 -- one comment more
 last_comment : (layout : Layout) (spot : Spot) (class : ℕ) (text : List ℕ) (n : ℕ) (cs : List Piece)
     → Closed class text → next_role spot.state cs ≡ beginning
-    → LastLaid layout (spot_after_comment layout spot beginning class (owned spot beginning cs) text n) cs
+    → LastLaid layout (spot_after_comment layout spot beginning class (owned layout spot beginning cs) text n) cs
     → LastLaid layout spot (piece class text n ∷ cs)
 last_comment layout spot class text n cs c e t =
-    let gap = gap_before_comment spot beginning class (owned spot beginning cs) n in
-    let shown = comment_text layout spot beginning class (owned spot beginning cs) text n in
+    let gap = gap_before_comment spot beginning class (owned layout spot beginning cs) n in
+    let shown = comment_text layout spot beginning class (owned layout spot beginning cs) text n in
     let b : ℕ → List Piece = λ m. [] in
     let d : Closed class shown = closed_text layout spot gap class text n c in
     let is = closed_is_comment class shown d in
     let begins = closed_begins class shown d in
-    let left = laid_from layout (spot_after_comment layout spot beginning class (owned spot beginning cs) text n) cs in
+    let left = laid_from layout
+    (spot_after_comment layout spot beginning class (owned layout spot beginning cs) text n) cs in
     let whole : laid_from layout spot (piece class text n ∷ cs) ≡ gap_text layout gap
     ++ (shown ++ left) = comment_laid layout spot beginning class text n cs is e in
     let ends : class ≡ LineComment → AtLineEnd left =
@@ -320,12 +324,12 @@ last_comment layout spot class text n cs c e t =
           ∙ closed_counted class shown d b (gap_ends gap) left ends
           ∙ ap (λ xs. piece class shown (gap_ends gap) ∷ xs) t.again
           ∙ sym (comment_relaid layout spot beginning class text n cs is e);
-      front = last_front class (owned spot beginning cs) n (begins.0 ++ left)
+      front = last_front class (owned layout spot beginning cs) n (begins.0 ++ left)
           (whole ∙ ap (λ xs. gap_text layout gap ++ (xs ++ left)) begins.1);
       at_line_end = λ f. subst AtLineEnd (sym whole)
-          (comment_gap_ends layout spot beginning class (owned spot beginning cs) n f (shown ++ left));
+          (comment_gap_ends layout spot beginning class (owned layout spot beginning cs) n f (shown ++ left));
       neat = subst (NeatAt spot.last spot.state.last) (sym whole)
-          (comment_gap_neat layout spot beginning class (owned spot beginning cs) n (shown ++ left)
+          (comment_gap_neat layout spot beginning class (owned layout spot beginning cs) n (shown ++ left)
           (closed_neat class shown d (leads gap spot.last spot.state.last) spot.state.last left t.neat));
     }
 
@@ -337,8 +341,8 @@ unclosed_end class text (unclosed xs i) leading left = refl
 open_comment_last : (layout : Layout) (spot : Spot) (class : ℕ) (text : List ℕ) (n : ℕ)
     → Unclosed class text → LastLaid layout spot (piece class text n ∷ [])
 open_comment_last layout spot class text n u =
-    let gap = gap_before_comment spot beginning class (owned spot beginning []) n in
-    let shown = comment_text layout spot beginning class (owned spot beginning []) text n in
+    let gap = gap_before_comment spot beginning class (owned layout spot beginning []) n in
+    let shown = comment_text layout spot beginning class (owned layout spot beginning []) text n in
     let b : ℕ → List Piece = λ m. [] in
     let v : Unclosed class shown = unclosed_text layout spot gap class text n u in
     let is = unclosed_is_comment class shown v in
@@ -353,17 +357,17 @@ open_comment_last layout spot class text n u =
       again = ap (comments b outside 0) whole ∙ gap_counted layout b gap shown
           ∙ unclosed_counted class shown v b (gap_ends gap)
           ∙ sym (comment_relaid layout spot beginning class text n [] is refl);
-      front = last_front class (owned spot beginning []) n begins.0
+      front = last_front class (owned layout spot beginning []) n begins.0
           (whole ∙ ap (λ xs. gap_text layout gap ++ xs) begins.1);
       at_line_end = λ f. subst AtLineEnd (sym whole)
-          (comment_gap_ends layout spot beginning class (owned spot beginning []) n f shown);
+          (comment_gap_ends layout spot beginning class (owned layout spot beginning []) n f shown);
       neat = subst (NeatAt spot.last spot.state.last) (sym whole) (comment_gap_neat layout spot
-          beginning class (owned spot beginning []) n shown (unclosed_neat class shown v));
+          beginning class (owned layout spot beginning []) n shown (unclosed_neat class shown v));
     }
 
 pub last_laid : (layout : Layout) (spot : Spot) (cs : List Piece) → AllClosedButLast cs → LastLaid layout spot cs
 last_laid layout spot cs (no_more) = laid_end layout spot
 last_laid layout spot cs (one_more p ps c h) =
     last_comment layout spot p.class p.text p.line_ends ps c (last_next spot.state ps h) (last_laid layout
-    (spot_after_comment layout spot beginning p.class (owned spot beginning ps) p.text p.line_ends) ps h)
+    (spot_after_comment layout spot beginning p.class (owned layout spot beginning ps) p.text p.line_ends) ps h)
 last_laid layout spot cs (last_open p u) = open_comment_last layout spot p.class p.text p.line_ends u

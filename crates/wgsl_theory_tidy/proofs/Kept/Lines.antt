@@ -203,7 +203,8 @@ ends_so text n = go (end_of text)
 
 neat : (layout : Layout) (source : List ℕ) (ts : List Token) → IsTokenList source ts finished
     → Neat outside start (laid_out layout (pieces source ts))
-neat layout source ts h = laid_neat layout source (map unplaced ts) (pieces source ts) (read source ts h) first_spot
+neat layout source ts h = laid_neat layout source (map unplaced ts) (pieces source ts)
+    (read source ts h) (first_spot layout (pieces source ts))
 
 pub line_breaks : (layout : Layout) (source : List ℕ) (ts : List Token)
     → IsTokenList source ts finished → BreaksLinesByLF (laid_out layout (pieces source ts))

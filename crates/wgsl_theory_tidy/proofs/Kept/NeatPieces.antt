@@ -3,9 +3,10 @@
 use Rattle.std.proofs.Common.{◌≡◌, ℕ, Bool, true, false, cond, refl, sym, subst, List, [], ◌∷◌, ◌++◌}
 use Rattle.wgsl_model.specs.Tokens.Trivia.{outside, in_line}
 use Rattle.wgsl_model_tidy.specs.Roles.{Role, beginning, is}
+use Rattle.wgsl_model_tidy.specs.Joints.{Joint}
 use Rattle.wgsl_model_tidy.specs.Layout.{Layout}
-use Rattle.wgsl_model_tidy.specs.Open.{Enclosing, enclosing, depth_of, comment_depth}
-use Rattle.wgsl_model_tidy.specs.LaidOut.{Gap, closed, broken, Last, token, line_comment, block_comment, leading_comment, open_comment, Spot, token_gap, comment_gap, comment_last, gap_before_comment, gap_before_token, gap_text, ending}
+use Rattle.wgsl_model_tidy.specs.Open.{depth_of, comment_depth}
+use Rattle.wgsl_model_tidy.specs.LaidOut.{between, counted, before_next, Gap, closed, broken, Last, token, line_comment, block_comment, leading_comment, open_comment, Spot, token_gap, comment_gap, comment_last, gap_before_comment, gap_before_token, gap_text, ending}
 use Rattle.wgsl_theory_tidy.proofs.Kept.NeatTexts.{start, solid, Neat, NeatWord, neat_word, broken_neat, gap_neat, line_neat}
 use Rattle.wgsl_theory_tidy.proofs.Kept.TextFronts.{ends_neat, open_neat}
 use Rattle.wgsl_theory_tidy.proofs.Kept.ClosedComments.{Closed, closed_line, closed_block, Unclosed, unclosed}
@@ -38,13 +39,13 @@ follows layout open_comment left gap r m h = tt
 follows layout block_comment left gap r m h = gap_neat layout gap r h
 follows layout leading_comment left gap r m h = gap_neat layout gap r h
 
-before_token : (inside : Enclosing) (last : Last) (left right : Role) (n : ℕ) (empty : Bool) (depth : ℕ)
-    → MayFollow last left (token_gap inside last left right n (broken empty depth))
-before_token inside token left right n empty depth = λ h. rw h refl
-before_token inside line_comment left right n empty depth = (empty, depth, refl)
-before_token inside open_comment left right n empty depth = tt
-before_token inside block_comment left right n empty depth = tt
-before_token inside leading_comment left right n empty depth = tt
+before_token : (joint : Joint) (last : Last) (left right : Role) (n : ℕ) (empty : Bool) (depth : ℕ)
+    → MayFollow last left (token_gap joint last left right n (broken empty depth))
+before_token joint token left right n empty depth = λ h. rw h refl
+before_token joint line_comment left right n empty depth = (empty, depth, refl)
+before_token joint open_comment left right n empty depth = tt
+before_token joint block_comment left right n empty depth = tt
+before_token joint leading_comment left right n empty depth = tt
 
 before_comment : (class : ℕ) (last : Last) (left : Role) (own : Bool) (n : ℕ) (empty : Bool) (depth : ℕ)
     → MayFollow last left (comment_gap class last left own n (broken empty depth))
@@ -56,10 +57,11 @@ before_comment class leading_comment left own n empty depth = tt
 
 -- the gap before a token and a neat text
 pub token_gap_neat : (layout : Layout) (spot : Spot) (right : Role) (n : ℕ) (r : List ℕ) → NeatWord r
-    → NeatAt spot.last spot.state.last (gap_text layout (gap_before_token spot right n) ++ r)
+    → NeatAt spot.last spot.state.last (gap_text layout (gap_before_token layout spot right n) ++ r)
 token_gap_neat layout spot right n r h =
-    follows layout spot.last spot.state.last (gap_before_token spot right n) r
-    (before_token (enclosing spot.state.opened) spot.last spot.state.last right n _ (depth_of spot.state right)) h
+    follows layout spot.last spot.state.last (gap_before_token layout spot right n) r
+    (before_token (between layout spot right) spot.last spot.state.last right (counted spot n) _
+    (depth_of (before_next spot right) right)) h
 
 -- and the gap before a comment
 pub comment_gap_neat : (layout : Layout) (spot : Spot) (right : Role) (class : ℕ) (own : Bool)
@@ -67,7 +69,8 @@ pub comment_gap_neat : (layout : Layout) (spot : Spot) (right : Role) (class : �
     → NeatAt spot.last spot.state.last (gap_text layout (gap_before_comment spot right class own n) ++ r)
 comment_gap_neat layout spot right class own n r h =
     follows layout spot.last spot.state.last (gap_before_comment spot right class own n) r
-    (before_comment class spot.last spot.state.last own n _ (comment_depth spot.state right)) h
+    (before_comment class spot.last spot.state.last own (counted spot n) _
+    (comment_depth (before_next spot right) right)) h
 
 -- ---- comments, and the end of the text
 

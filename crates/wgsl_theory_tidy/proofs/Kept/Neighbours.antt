@@ -10,8 +10,8 @@ use Rattle.wgsl_theory_printed.proofs.Spelling.Spellings.{EndsAt}
 use Rattle.wgsl_theory_printed.proofs.Spelling.Signs.{begins_name, begins_number, sign_ends_before}
 use Rattle.wgsl_theory_printed.proofs.Spelling.Split.{goes_on_with}
 use Rattle.wgsl_model_tidy.specs.Roles.{Role, opening, closing, template_start, block_start, block_end, comma, semicolon, colon, else_word, at, beginning, item_end, attribute, is, is_tight, opens_bracket, closes_bracket}
-use Rattle.wgsl_model_tidy.specs.Joints.{Joint, line, nothing, space, nothing_or_line, space_or_line, closed_up, continues_line, joint_in_line, joint_in_lines, ended, joint}
-use Rattle.wgsl_model_tidy.specs.Open.{LayoutState, Enclosing, no_bracket, one_line, own_lines, item_lines, in_arguments, in_members, in_brackets, last_after}
+use Rattle.wgsl_model_tidy.specs.Joints.{Joint, line, nothing, space, nothing_or_line, space_or_line, closed_up, continues_line, joint_in_line, joint_in_lines, is_between_items, joint_in_own_lines, joint}
+use Rattle.wgsl_model_tidy.specs.Open.{LayoutState, Enclosing, no_bracket, one_line, own_lines, filled_lines, item_lines, in_arguments, in_members, in_brackets, last_after}
 use Rattle.wgsl_theory_tidy.proofs.Kept.Alone.{IsAlone, alone_ends, alone_before, space_alone, line_end_alone, brace_right_alone}
 use Rattle.wgsl_theory_tidy.proofs.Kept.Touching.{less_no_name, slash_no_name, at_one, starts, is_tight_only, tight_only, Shaped, is_name, is_word, is_else, is_unsuffixed, is_number, is_opening, is_closing, is_less, is_other, touches}
 
@@ -73,54 +73,52 @@ in_line_close left right = go (closed_up left right) refl
     go true z m = close_up z
     go false z m = absurd (true≢false (sym m))
 
-in_lines_close : (inside : Bool) (left right : Role)
-    → may_close (joint_in_lines inside left right) ≡ true → Close left right
-in_lines_close inside left right =
+semicolon_tight : (right : Role) → is right semicolon ≡ true → is_tight right ≡ true
+semicolon_tight semicolon h = refl
+semicolon_tight right h = absurd (true≢false (sym h))
+
+in_lines_close : (left right : Role) → may_close (joint_in_lines left right) ≡ true → Close left right
+in_lines_close left right =
     go (is left block_start) (is right block_end) (is left item_end) (is left block_end)
     (is right else_word) (is_tight right) (is right semicolon) (is right block_start)
-    (closed_up left right) (inside || continues_line left right) refl refl refl
+    (closed_up left right) (continues_line left) refl refl (semicolon_tight right) refl
   where
     go : (a b c d e f s g h i : Bool) → is right block_end ≡ b → is_tight right ≡ f
-        → closed_up left right ≡ h
+        → (s ≡ true → is_tight right ≡ true) → closed_up left right ≡ h
         → may_close (cond a (cond b nothing line)
-        (cond (b || c) line (cond d (cond e space (cond f (cond s nothing_or_line nothing) line))
-        (cond g space (cond h nothing (cond i space_or_line space)))))) ≡ true → Close left right
-    go true true c d e f s g h i x y z m = braces x
-    go true false c d e f s g h i x y z m = absurd (true≢false (sym m))
-    go false true c d e f s g h i x y z m = absurd (true≢false (sym m))
-    go false false true d e f s g h i x y z m = absurd (true≢false (sym m))
-    go false false false true true f s g h i x y z m = absurd (true≢false (sym m))
-    go false false false true false true s g h i x y z m = close_up (or_left _ _ (or_left (is_tight right) _ y))
-    go false false false true false false s g h i x y z m = absurd (true≢false (sym m))
-    go false false false false e f s true h i x y z m = absurd (true≢false (sym m))
-    go false false false false e f s false true i x y z m = close_up z
-    go false false false false e f s false false true x y z m = absurd (true≢false (sym m))
-    go false false false false e f s false false false x y z m = absurd (true≢false (sym m))
+        (cond c (cond s nothing_or_line line)
+        (cond b line (cond d (cond e space (cond f (cond s nothing_or_line nothing) line))
+        (cond g space (cond h nothing (cond i space_or_line space))))))) ≡ true → Close left right
+    go true true c d e f s g h i x y t z m = braces x
+    go true false c d e f s g h i x y t z m = absurd (true≢false (sym m))
+    go false b true d e f true g h i x y t z m = close_up (or_left _ _ (or_left (is_tight right) _ (t refl)))
+    go false b true d e f false g h i x y t z m = absurd (true≢false (sym m))
+    go false true false d e f s g h i x y t z m = absurd (true≢false (sym m))
+    go false false false true true f s g h i x y t z m = absurd (true≢false (sym m))
+    go false false false true false true s g h i x y t z m = close_up (or_left _ _ (or_left (is_tight right) _ y))
+    go false false false true false false s g h i x y t z m = absurd (true≢false (sym m))
+    go false false false false e f s true h i x y t z m = absurd (true≢false (sym m))
+    go false false false false e f s false true i x y t z m = close_up z
+    go false false false false e f s false false true x y t z m = absurd (true≢false (sym m))
+    go false false false false e f s false false false x y t z m = absurd (true≢false (sym m))
 
--- where a line ends nothing is closed up
-ended_close : (b : Bool) (j : Joint) → may_close (ended b j) ≡ true → may_close j ≡ true
-ended_close true space_or_line m = absurd (true≢false (sym m))
-ended_close true line m = m
-ended_close true nothing m = m
-ended_close true space m = m
-ended_close true nothing_or_line m = m
-ended_close false j m = m
+-- where a line ends nothing is closed up, nor between items
+own_lines_close : (between : Joint) → may_close between ≡ false → (left right : Role)
+    → may_close (joint_in_own_lines between left right) ≡ true → Close left right
+own_lines_close between h left right =
+    go (opens_bracket left || closes_bracket right) (is_between_items left right)
+  where
+    go : (b c : Bool) → may_close (cond b line (cond c between (joint_in_line left right))) ≡ true → Close left right
+    go true c m = absurd (true≢false (sym m))
+    go false true m = absurd (true≢false (sym m ∙ h))
+    go false false m = in_line_close left right m
 
 pub by_joint : (inside : Enclosing) (left right : Role) → may_close (joint inside left right) ≡ true → Close left right
-by_joint no_bracket left right = in_lines_close false left right
+by_joint no_bracket left right = in_lines_close left right
 by_joint one_line left right = in_line_close left right
-by_joint own_lines left right = go (opens_bracket left || closes_bracket right)
-  where
-    go : (b : Bool) → may_close (cond b line (joint_in_lines true left right)) ≡ true → Close left right
-    go true m = absurd (true≢false (sym m))
-    go false m = in_lines_close true left right m
-by_joint item_lines left right = go (opens_bracket left || closes_bracket right)
-  where
-    go : (b : Bool) → may_close (cond b line (ended (is left comma || is left semicolon)
-        (joint_in_lines true left right))) ≡ true → Close left right
-    go true m = absurd (true≢false (sym m))
-    go false m = in_lines_close true left right
-        (ended_close (is left comma || is left semicolon) (joint_in_lines true left right) m)
+by_joint own_lines left right = own_lines_close space_or_line refl left right
+by_joint filled_lines left right = own_lines_close space_or_line refl left right
+by_joint item_lines left right = own_lines_close line refl left right
 
 closing_brace : (right : Role) (x : ℕ) → is right block_end ≡ true → starts right x ≡ true → (x == 125) ≡ true
 closing_brace block_end x h s = s

@@ -3,7 +3,7 @@ use Rattle.std.proofs.Common.{◌≡◌, ◌⊎◌, inl, inr, ℕ, ◌==◌, ◌
 use Rattle.std.proofs.lemmas.Bool.{true≢false, and_parts, eqb-true}
 use Rattle.grammar.specs.Grammar.{is_among}
 use Rattle.wgsl_model.specs.Tokens.ClassTable.{AbstractFloat, AbstractInt, F16, F32, I32, Ident, KwDiagnostic, KwElse, KwFalse, KwTrue, ReservedWord, SymAnd, SymAttr, SymBang, SymBraceLeft, SymBraceRight, SymBracketLeft, SymBracketRight, SymColon, SymComma, SymMinus, SymMinusMinus, SymParenLeft, SymParenRight, SymPeriod, SymPlusPlus, SymSemicolon, SymStar, SymTilde, TemplateArgsEnd, TemplateArgsStart, U32}
-use Rattle.wgsl_model_tidy.specs.Roles.{Role, is_operator, name, unsuffixed, number, word, else_word, comma, semicolon, colon, period, at, step, binary, minus, ampersand, prefix, opening, closing, template_start, template_end, block_start, block_end, ends_operand, sign_role, role_of}
+use Rattle.wgsl_model_tidy.specs.Roles.{Role, is_operator, is_assignment, name, unsuffixed, number, word, else_word, comma, semicolon, colon, period, at, step, binary, assign, minus, ampersand, prefix, opening, closing, template_start, template_end, block_start, block_end, ends_operand, sign_role, role_of}
 use Rattle.wgsl_model_tidy.specs.Open.{Open, Style, LayoutState, role_in, opened_after_token}
 use Rattle.wgsl_theory_tidy.proofs.Kept.TextFronts.{by_test}
 use Rattle.wgsl_theory_tidy.proofs.Kept.NestedTokens.{Effect, opens, closes, none, effect}
@@ -65,7 +65,8 @@ idle_role b c p q r s t u =
     (idle_if (is_among c (SymMinus ∷ SymAnd ∷ SymStar ∷ [])) (sign_role b c) _ (idle_sign b c)
     (idle_if (is_among c (SymBang ∷ SymTilde ∷ [])) prefix _ (does prefix (λ s l t. refl))
     (idle_if (is_among c (SymPlusPlus ∷ SymMinusMinus ∷ [])) step _ (does step (λ s l t. refl))
-    (idle_if (is_operator c) binary _ (does binary (λ s l t. refl)) (does word (λ s l t. refl))))))))))))))))))))
+    (idle_if (is_operator c) binary _ (does binary (λ s l t. refl))
+    (idle_if (is_assignment c) assign word (does assign (λ s l t. refl)) (does word (λ s l t. refl)))))))))))))))))))))
 
 -- ---- every role
 

@@ -17,7 +17,7 @@ use Rattle.wgsl_model_tidy.specs.Roles.{Role, template_start, beginning, is}
 use Rattle.wgsl_model_tidy.specs.Joints.{Joint, line, nothing, space, nothing_or_line, space_or_line, joint}
 use Rattle.wgsl_model_tidy.specs.Layout.{Layout}
 use Rattle.wgsl_model_tidy.specs.Open.{LayoutState, enclosing, between_items, depth_of, comment_depth, role_in, last_after}
-use Rattle.wgsl_model_tidy.specs.LaidOut.{Gap, closed, blank, broken, token, Spot, kept_gap, joint_gap, line_end, gap_before_comment, gap_before_token, gap_text, ending}
+use Rattle.wgsl_model_tidy.specs.LaidOut.{Gap, closed, blank, broken, Last, token, Spot, is_token, may_break, begins_line, between, counted, before_next, token_gap, comment_gap, kept_gap, joint_gap, line_end, gap_before_comment, gap_before_token, gap_text, ending}
 use Rattle.wgsl_theory_tidy.proofs.Kept.Neighbours.{not_beginning, shaped_after, may_close, by_joint, is_before_comment, NoComment, PartsAt, Parts, parts}
 use Rattle.wgsl_theory_tidy.proofs.Kept.Readings.{IsToken, is_word, is_slash, is_slash_equal, is_start, is_end}
 use Rattle.wgsl_theory_tidy.proofs.Kept.TokenRoles.{Starts, shaped}
@@ -55,40 +55,75 @@ joint_parts layout left w space_or_line n empty depth more p e =
 
 -- ---- after a token
 
-token_parts : (layout : Layout) (column : ℕ) (state : LayoutState) (right : Role) (n : ℕ) (w v more : List ℕ)
-    → Shaped state.last w → Starts right v → PartsBefore w (gap_text layout
-    (gap_before_token (record { state = state; last = token; column = column }) right n) ++ (v ++ more))
-token_parts layout column state right n w [] more h s = absurd s
-token_parts layout column state right n w (x ∷ xs) more h s =
-    let p = parts state.last w h in
-    rw (not_beginning state.last w h)
-    (joint_parts layout state.last w (joint (enclosing state.opened) state.last right) n _
-    (depth_of state right) (x ∷ (xs ++ more)) p
-    (λ m. p.token right x s (by_joint (enclosing state.opened) state.last right m)))
+-- a line break, or what is between two tokens, and a token
+between_parts : (layout : Layout) (spot : Spot) (right : Role) (n : ℕ) (empty : Bool) (depth : ℕ) (more : List ℕ)
+    (w : List ℕ) → Parts spot.state.last w
+    → (may_close (joint (enclosing spot.state.opened) spot.state.last right) ≡ true → PartsBefore w more)
+    → PartsBefore w (gap_text layout (joint_gap (between layout spot right) n (broken empty depth)) ++ more)
+between_parts layout spot right n empty depth more w p e =
+    go (is_token spot.last && (may_break (enclosing spot.state.opened) && begins_line layout spot right))
+  where
+    go : (b : Bool) → PartsBefore w (gap_text layout (joint_gap
+        (cond b line (joint (enclosing spot.state.opened) spot.state.last right)) n (broken empty depth)) ++ more)
+    go true = joint_parts layout spot.state.last w line n empty depth more p (λ h. absurd (true≢false (sym h)))
+    go false = joint_parts layout spot.state.last w (joint (enclosing spot.state.opened) spot.state.last right) n
+        empty depth more p e
 
-comment_parts : (layout : Layout) (column : ℕ) (state : LayoutState) (right : Role) (class : ℕ)
-    (owned : Bool) (n : ℕ) (w more : List ℕ) → Shaped state.last w
-    → PartsBefore w (gap_text layout (gap_before_comment
-    (record { state = state; last = token; column = column }) right class owned n) ++ (47 ∷ more))
-comment_parts layout column state right class owned n w more h = rw (not_beginning state.last w h) (own owned)
+-- the gap there, where what is last is known
+abbrev after_token_gap : Layout → Spot → Role → ℕ → Last → Gap
+after_token_gap layout spot right n last = token_gap (between layout spot right) last spot.state.last right
+    (counted spot n) (line_end (between_items (before_next spot right) right) spot.last spot.state.last right
+    (counted spot n) (depth_of (before_next spot right) right))
+
+-- before a token
+pub parts_before_token : (layout : Layout) (spot : Spot) (right : Role) (n : ℕ) (w v more : List ℕ)
+    → spot.last ≡ token → Shaped spot.state.last w → Starts right v
+    → PartsBefore w (gap_text layout (gap_before_token layout spot right n) ++ (v ++ more))
+parts_before_token layout spot right n w [] more e h s = absurd s
+parts_before_token layout spot right n w (x ∷ xs) more e h s =
+    subst (λ last. PartsBefore w (gap_text layout (after_token_gap layout spot right n last) ++ (x ∷ (xs ++ more))))
+    (sym e)
+    (subst (λ b. PartsBefore w (gap_text layout (cond b closed (joint_gap (between layout spot right) (counted spot n)
+    (line_end (between_items (before_next spot right) right) spot.last spot.state.last right (counted spot n)
+    (depth_of (before_next spot right) right)))) ++ (x ∷ (xs ++ more)))) (sym (not_beginning spot.state.last w h))
+    (between_parts layout spot right (counted spot n) _ (depth_of (before_next spot right) right) (x ∷ (xs ++ more)) w p
+    (λ m. p.token right x s (by_joint (enclosing spot.state.opened) spot.state.last right m))))
+  where
+    p : Parts spot.state.last w
+    p = parts spot.state.last w h
+
+-- before a comment, where the next token has a role
+comment_parts : (layout : Layout) (left : Role) (class : ℕ) (owned : Bool) (n : ℕ) (empty : Bool) (depth : ℕ)
+    (w more : List ℕ) → Shaped left w
+    → PartsBefore w (gap_text layout (comment_gap class token left owned n (broken empty depth)) ++ (47 ∷ more))
+comment_parts layout left class owned n empty depth w more h = rw (not_beginning left w h) (own owned)
   where
     break : Gap
-    break = line_end (between_items state right) token state.last beginning n (comment_depth state right)
+    break = broken empty depth
 
-    p : Parts state.last w
-    p = parts state.last w h
+    p : Parts left w
+    p = parts left w h
 
-    opened : (b : Bool) (c : Bool) → is_before_comment state.last ≡ b → PartsBefore w
+    opened : (b : Bool) (c : Bool) → is_before_comment left ≡ b → PartsBefore w
         (gap_text layout (cond (b && c) (kept_gap n break closed) (kept_gap n break blank)) ++ (47 ∷ more))
-    opened true true e = kept_parts layout state.last w n _ (comment_depth state right) closed
-        (47 ∷ more) p (p.comment e)
-    opened true false e = kept_parts layout state.last w n _ (comment_depth state right) blank (47 ∷ more) p p.space
-    opened false c e = kept_parts layout state.last w n _ (comment_depth state right) blank (47 ∷ more) p p.space
+    opened true true e = kept_parts layout left w n empty depth closed (47 ∷ more) p (p.comment e)
+    opened true false e = kept_parts layout left w n empty depth blank (47 ∷ more) p p.space
+    opened false c e = kept_parts layout left w n empty depth blank (47 ∷ more) p p.space
 
-    own : (b : Bool) → PartsBefore w (gap_text layout (cond b break (cond (is_before_comment state.last
+    own : (b : Bool) → PartsBefore w (gap_text layout (cond b break (cond (is_before_comment left
         && not (class == LineComment)) (kept_gap n break closed) (kept_gap n break blank))) ++ (47 ∷ more))
-    own true = broken_parts layout state.last w _ (comment_depth state right) (47 ∷ more) p
-    own false = opened (is_before_comment state.last) (not (class == LineComment)) refl
+    own true = broken_parts layout left w empty depth (47 ∷ more) p
+    own false = opened (is_before_comment left) (not (class == LineComment)) refl
+
+pub parts_before_comment : (layout : Layout) (spot : Spot) (right : Role) (class : ℕ) (owned : Bool)
+    (n : ℕ) (w more : List ℕ) → spot.last ≡ token → Shaped spot.state.last w
+    → PartsBefore w (gap_text layout (gap_before_comment spot right class owned n) ++ (47 ∷ more))
+parts_before_comment layout spot right class owned n w more e h =
+    subst (λ last. PartsBefore w (gap_text layout (comment_gap class last spot.state.last owned (counted spot n)
+    (line_end (between_items (before_next spot right) right) spot.last spot.state.last beginning (counted spot n)
+    (comment_depth (before_next spot right) right))) ++ (47 ∷ more))) (sym e)
+    (comment_parts layout spot.state.last class owned (counted spot n) _ (comment_depth (before_next spot right) right)
+    w more h)
 
 ending_parts : (left : Role) (w : List ℕ) → Shaped left w → PartsBefore w (ending token left)
 ending_parts left w h = go (is left beginning)
@@ -96,24 +131,6 @@ ending_parts left w h = go (is left beginning)
     go : (b : Bool) → PartsBefore w (cond b [] (10 ∷ []))
     go true = tt
     go false = (parts left w h).line_end
-
--- the same at a spot: before a token
-pub parts_before_token : (layout : Layout) (spot : Spot) (right : Role) (n : ℕ) (w v more : List ℕ)
-    → spot.last ≡ token → Shaped spot.state.last w → Starts right v
-    → PartsBefore w (gap_text layout (gap_before_token spot right n) ++ (v ++ more))
-parts_before_token layout spot right n w v more e h s =
-    subst (λ last. PartsBefore w (gap_text layout (gap_before_token
-    (record { state = spot.state; last = last; column = spot.column }) right n) ++ (v ++ more)))
-    (sym e) (token_parts layout spot.column spot.state right n w v more h s)
-
--- before a comment, where the next token has a role
-pub parts_before_comment : (layout : Layout) (spot : Spot) (right : Role) (class : ℕ) (owned : Bool)
-    (n : ℕ) (w more : List ℕ) → spot.last ≡ token → Shaped spot.state.last w
-    → PartsBefore w (gap_text layout (gap_before_comment spot right class owned n) ++ (47 ∷ more))
-parts_before_comment layout spot right class owned n w more e h =
-    subst (λ last. PartsBefore w (gap_text layout (gap_before_comment
-    (record { state = spot.state; last = last; column = spot.column }) right class owned n) ++ (47 ∷ more))) (sym e)
-    (comment_parts layout spot.column spot.state right class owned n w more h)
 
 -- and at the end of the text
 pub parts_before_ending : (spot : Spot) (w : List ℕ) → spot.last ≡ token → Shaped spot.state.last w

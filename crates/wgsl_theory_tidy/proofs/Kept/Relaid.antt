@@ -1,28 +1,21 @@
 -- The pieces of a laid-out text: the same pieces as they are written, each after as many line ends
 -- as its gap has.
-use Rattle.std.proofs.Common.{◌≡◌, ℕ, Bool, false, cond, refl, ap, ap₂, List, [], ◌∷◌, map}
+use Rattle.std.proofs.Common.{◌≡◌, Bool, false, cond, refl, ap, ap₂, List, [], ◌∷◌, map}
 use Rattle.wgsl_model_tidy.specs.Pieces.{Piece}
 use Rattle.wgsl_model_tidy.specs.Kept.{class_and_text}
 use Rattle.wgsl_model_tidy.specs.Roles.{Role, begins_operand, role_of}
 use Rattle.wgsl_model_tidy.specs.Layout.{Layout}
-use Rattle.wgsl_model_tidy.specs.Open.{Style, together, LayoutState, enclosing, role_in}
-use Rattle.wgsl_model_tidy.specs.LaidOut.{Gap, Spot, is_comment, next_role, gap_before, piece_text, spot_after_first, style_of, laid_from, operand_follows}
+use Rattle.wgsl_model_tidy.specs.Open.{LayoutState, role_in}
+use Rattle.wgsl_model_tidy.specs.Ahead.{is_comment, next_role, operand_follows}
+use Rattle.wgsl_model_tidy.specs.LaidOut.{Gap, Spot, gap_before, piece_text, after_piece}
 use Rattle.wgsl_theory_tidy.proofs.Kept.Gaps.{gap_ends}
 use Rattle.wgsl_theory_tidy.proofs.Kept.ShownTexts.{text_kept}
 
--- how a bracket is written that the first of these pieces opens
-abbrev pub style_first : Layout → Spot → Piece → List Piece → Style
-style_first layout spot p ps =
-    let after = spot_after_first layout spot p ps together in
-    style_of layout (enclosing spot.state.opened) p.class after.column ps (laid_from layout after ps)
-
 -- the spot after the first of these pieces
 abbrev pub after_first : Layout → Spot → Piece → List Piece → Spot
-after_first layout spot p ps = spot_after_first layout spot p ps (style_first layout spot p ps)
-
--- a piece after a number of line ends
-abbrev pub after_ends : Piece → ℕ → Piece
-after_ends p n = record { class = p.class; text = p.text; line_ends = n }
+after_first layout spot p ps =
+    let right = next_role spot.state (p ∷ ps) in
+    after_piece layout spot (gap_before layout spot right p ps) right p
 
 -- a piece after this gap, as it is read again
 abbrev pub read_again : Layout → Spot → Gap → Piece → Piece
@@ -30,7 +23,7 @@ read_again layout spot gap p = record { class = p.class; text = piece_text layou
 
 -- the first of these pieces
 abbrev pub first_again : Layout → Spot → Piece → List Piece → Piece
-first_again layout spot p ps = read_again layout spot (gap_before spot (next_role spot.state (p ∷ ps)) p ps) p
+first_again layout spot p ps = read_again layout spot (gap_before layout spot (next_role spot.state (p ∷ ps)) p ps) p
 
 -- the pieces of the text in which these are formatted after a spot
 abbrev pub relaid : Layout → Spot → List Piece → List Piece
@@ -43,11 +36,11 @@ pub relaid_spelled : (layout : Layout) (spot : Spot) (ps : List Piece)
 relaid_spelled layout spot [] = refl
 relaid_spelled layout spot (p ∷ ps) =
     ap₂ (λ t xs. (p.class, t) ∷ xs)
-    (text_kept layout spot (gap_before spot (next_role spot.state (p ∷ ps)) p ps) p)
+    (text_kept layout spot (gap_before layout spot (next_role spot.state (p ∷ ps)) p ps) p)
     (relaid_spelled layout (after_first layout spot p ps) ps)
 
 -- so an operand begins with the first token as before
-relaid_operand : (layout : Layout) (spot : Spot) (ps : List Piece)
+pub relaid_operand : (layout : Layout) (spot : Spot) (ps : List Piece)
     → operand_follows (relaid layout spot ps) ≡ operand_follows ps
 relaid_operand layout spot [] = refl
 relaid_operand layout spot (p ∷ ps) =

@@ -9,7 +9,8 @@ use Rattle.wgsl_model_tidy.specs.Pieces.{Piece, pieces}
 use Rattle.wgsl_model_tidy.specs.NonBlank.{non_blank}
 use Rattle.wgsl_model_tidy.specs.Roles.{Role, beginning, is}
 use Rattle.wgsl_model_tidy.specs.Layout.{Layout}
-use Rattle.wgsl_model_tidy.specs.LaidOut.{Gap, closed, blank, broken, Last, token, line_comment, block_comment, leading_comment, open_comment, Spot, gap_before, next_role, gap_text, piece_text, indentation, ending, first_spot, laid_from, laid_out}
+use Rattle.wgsl_model_tidy.specs.Ahead.{next_role}
+use Rattle.wgsl_model_tidy.specs.LaidOut.{Gap, closed, blank, broken, Last, token, line_comment, block_comment, leading_comment, open_comment, Spot, gap_before, gap_text, piece_text, indentation, ending, first_spot, laid_from, laid_out}
 use Rattle.wgsl_model_tidy.specs.Kept.{unplaced}
 use Rattle.wgsl_theory_tidy.proofs.Levels.{IsIndent, no_indent, one_space, one_tab, indentation_indent}
 use Rattle.wgsl_theory_tidy.proofs.Kept.NonBlankOf.{non_blank_of, joined, joined_of}
@@ -63,7 +64,7 @@ pub laid_same : (layout : Layout) (spot : Spot) (ps : List Piece)
     → non_blank (laid_from layout spot ps) ≡ non_blank_of ps
 laid_same layout spot [] = ending_blank spot.last spot.state.last
 laid_same layout spot (p ∷ ps) =
-    let gap = gap_before spot (next_role spot.state (p ∷ ps)) p ps in
+    let gap = gap_before layout spot (next_role spot.state (p ∷ ps)) p ps in
     let text = piece_text layout spot gap p in
     let rest = laid_from layout (after_first layout spot p ps) ps in
     joined (gap_text layout gap) (text ++ rest)
@@ -75,5 +76,5 @@ laid_same layout spot (p ∷ ps) =
 
 pub same_characters : (layout : Layout) (source : List ℕ) (ts : List Token)
     → IsTokenList source ts finished → non_blank (laid_out layout (pieces source ts)) ≡ non_blank source
-same_characters layout source ts h = laid_same layout first_spot (pieces source ts)
+same_characters layout source ts h = laid_same layout (first_spot layout (pieces source ts)) (pieces source ts)
     ∙ sym (read_same source (map unplaced ts) (pieces source ts) (read source ts h))

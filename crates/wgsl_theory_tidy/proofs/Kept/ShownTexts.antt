@@ -10,7 +10,8 @@ use Rattle.wgsl_model_tidy.specs.Pieces.{Piece, OpenComment}
 use Rattle.wgsl_model_tidy.specs.NonBlank.{non_blank}
 use Rattle.wgsl_model_tidy.specs.Shown.{without_returns, is_space, has_stars, with_front, block_shown, shown}
 use Rattle.wgsl_model_tidy.specs.Layout.{Layout}
-use Rattle.wgsl_model_tidy.specs.LaidOut.{Gap, Spot, indentation, begins_line, depth_after, piece_text, is_comment}
+use Rattle.wgsl_model_tidy.specs.Ahead.{is_comment}
+use Rattle.wgsl_model_tidy.specs.LaidOut.{Gap, Spot, indentation, is_at_front, depth_after, piece_text}
 use Rattle.wgsl_theory_tidy.proofs.Comments.{piece}
 use Rattle.wgsl_theory_tidy.proofs.Levels.{IsIndent, no_indent, one_space, one_tab, both_indents, indentation_indent}
 use Rattle.wgsl_theory_tidy.proofs.Kept.Bodies.{IsBody, first_same, body_without_returns, body_with_front}
@@ -305,7 +306,7 @@ shown_kept front n last begins p = class_again last front p.text true begins
 
 -- ---- a token stays as it is, and a comment is one again
 
-token_by_class : (front : List ℕ) (begins : Bool) (class : ℕ) (text : List ℕ) (n : ℕ)
+pub token_by_class : (front : List ℕ) (begins : Bool) (class : ℕ) (text : List ℕ) (n : ℕ)
     → is_comment class ≡ false → shown front begins (piece class text n) ≡ text
 token_by_class front begins class text n = go (class == LineComment) (class == BlockComment) (class == OpenComment)
   where
@@ -346,29 +347,29 @@ pub text_non_blank : (layout : Layout) (spot : Spot) (gap : Gap) (p : Piece)
     → non_blank (piece_text layout spot gap p) ≡ non_blank p.text
 text_non_blank layout spot gap p = non_blank_shown _
     (front_indent_of layout (depth_after gap spot.state.line))
-    (begins_line gap spot.last spot.state.last) p
+    (is_at_front gap spot.last spot.state.last) p
 
 pub text_again : (layout : Layout) (spot : Spot) (gap : Gap) (p : Piece)
     → piece_text layout spot gap (piece p.class (piece_text layout spot gap p) 0) ≡ piece_text layout spot gap p
 text_again layout spot gap p = shown_again _ (front_indent_of layout (depth_after gap spot.state.line))
-    (begins_line gap spot.last spot.state.last) p
+    (is_at_front gap spot.last spot.state.last) p
 
 pub text_kept : (layout : Layout) (spot : Spot) (gap : Gap) (p : Piece)
     → shown [] true (piece p.class (piece_text layout spot gap p) 0) ≡ shown [] true p
 text_kept layout spot gap p = shown_kept _ (front_indent_of layout (depth_after gap spot.state.line))
-    [] (begins_line gap spot.last spot.state.last) p
+    [] (is_at_front gap spot.last spot.state.last) p
 
 pub token_text : (layout : Layout) (spot : Spot) (gap : Gap) (class : ℕ) (text : List ℕ) (n : ℕ)
     → is_comment class ≡ false → piece_text layout spot gap (piece class text n) ≡ text
-token_text layout spot gap class text n h = token_by_class _ (begins_line gap spot.last spot.state.last) class text n h
+token_text layout spot gap class text n h = token_by_class _ (is_at_front gap spot.last spot.state.last) class text n h
 
 pub closed_text : (layout : Layout) (spot : Spot) (gap : Gap) (class : ℕ) (text : List ℕ) (n : ℕ)
     → Closed class text → Closed class (piece_text layout spot gap (piece class text n))
 closed_text layout spot gap class text n c = closed_by_class _
     (front_indent_of layout (depth_after gap spot.state.line))
-    (begins_line gap spot.last spot.state.last) class text n c
+    (is_at_front gap spot.last spot.state.last) class text n c
 
 pub unclosed_text : (layout : Layout) (spot : Spot) (gap : Gap) (class : ℕ) (text : List ℕ) (n : ℕ)
     → Unclosed class text → Unclosed class (piece_text layout spot gap (piece class text n))
 unclosed_text layout spot gap class text n u = unclosed_by_class _
-    (begins_line gap spot.last spot.state.last) class text n u
+    (is_at_front gap spot.last spot.state.last) class text n u

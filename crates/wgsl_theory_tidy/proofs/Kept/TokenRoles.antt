@@ -19,7 +19,7 @@ use Rattle.wgsl_theory_printed.proofs.Spelling.Spellings.{EndsAt}
 use Rattle.wgsl_theory_printed.proofs.Spelling.Signs.{begins_name, begins_number, one_of_three}
 use Rattle.wgsl_theory_printed.proofs.Spelling.Ends.{number_no_name, number_no_symbol}
 use Rattle.wgsl_theory_printed.proofs.Fits.PointAfter.{no_point_after}
-use Rattle.wgsl_model_tidy.specs.Roles.{Role, name, unsuffixed, number, word, else_word, opening, closing, block_start, block_end, comma, semicolon, colon, period, at, minus, ampersand, prefix, binary, step, ends_operand, role_of}
+use Rattle.wgsl_model_tidy.specs.Roles.{Role, name, unsuffixed, number, word, else_word, opening, closing, block_start, block_end, comma, semicolon, colon, period, at, minus, ampersand, prefix, binary, assign, step, ends_operand, role_of}
 use Rattle.wgsl_model_tidy.specs.Open.{LayoutState, role_in}
 use Rattle.wgsl_theory_tidy.proofs.Kept.Alone.{paren_left_alone, paren_right_alone, bracket_left_alone, bracket_right_alone}
 use Rattle.wgsl_theory_tidy.proofs.Kept.Readings.{IsToken, is_word, is_slash, is_slash_equal, is_start, is_end}
@@ -159,6 +159,7 @@ is_symbol minus w = bytes_eq (codes "-") w
 is_symbol ampersand w = bytes_eq (codes "&") w
 is_symbol prefix w = bytes_eq (codes "!") w || (bytes_eq (codes "~") w || bytes_eq (codes "*") w)
 is_symbol binary w = not (is_empty w)
+is_symbol assign w = not (is_empty w)
 is_symbol step w = bytes_eq (codes "++") w || bytes_eq (codes "--") w
 is_symbol role w = false
 
@@ -199,12 +200,15 @@ symbol_fits prefix w h =
     (λ e. two_texts prefix (codes "~") (codes "*") w e (is_tilde, refl) (is_star, refl))
 symbol_fits binary [] h = absurd (true≢false (sym h))
 symbol_fits binary (x ∷ xs) h = (is_other binary x xs refl, refl)
+symbol_fits assign [] h = absurd (true≢false (sym h))
+symbol_fits assign (x ∷ xs) h = (is_other assign x xs refl, refl)
 symbol_fits step w h = two_texts step (codes "++") (codes "--") w h (is_plus_plus, refl) (is_minus_minus, refl)
 symbol_fits role w h = absurd (true≢false (sym h))
 
 -- ---- all of them
 
-valued_fits : (following : Bool) (k : Kind) (w : List ℕ) → kind_of_spelling w ≡ Some k → Fits (role_of following k.class) w
+valued_fits : (following : Bool) (k : Kind) (w : List ℕ) → kind_of_spelling w ≡ Some k
+    → Fits (role_of following k.class) w
 valued_fits following k [] h = absurd (cc)
 valued_fits following k (x ∷ xs) h = by (begins_name x) (is_ascii_digit x || (x == 46 && not (is_empty xs))) refl refl h
   where
@@ -227,18 +231,20 @@ valued_fits following k (x ∷ xs) h = by (begins_name x) (is_ascii_digit x || (
         word_fits (role_of following k.class) x xs does e
     by false true e f v =
         let first = number_first x xs f in
-        subst (λ (role : Role). Fits role (x ∷ xs)) (sym (number_role (x ∷ xs) k v following)) (number_fits x xs k v first)
+        subst (λ (role : Role). Fits role (x ∷ xs)) (sym (number_role (x ∷ xs) k v following))
+        (number_fits x xs k v first)
     by false false e f v = of_symbol (look_up symbols (x ∷ xs)) refl v
 
 token_shaped : (following : Bool) (k : Kind) (w rest : List ℕ) → IsToken k w rest
     → Shaped (role_of following k.class) w ⊎ (k ≡ plain TemplateArgsEnd)
 token_shaped following k w rest (is_word kind v more m s r) = inl (valued_fits following k w s.valued).0
 token_shaped following k w rest (is_slash more r) = inl (is_other binary 47 [] refl)
-token_shaped following k w rest (is_slash_equal more r) = inl (is_other binary 47 (61 ∷ []) refl)
+token_shaped following k w rest (is_slash_equal more r) = inl (is_other assign 47 (61 ∷ []) refl)
 token_shaped following k w rest (is_start more) = inl is_less
 token_shaped following k w rest (is_end more) = inr refl
 
-pub token_starts : (following : Bool) (k : Kind) (w rest : List ℕ) → IsToken k w rest → Starts (role_of following k.class) w
+pub token_starts : (following : Bool) (k : Kind) (w rest : List ℕ) → IsToken k w rest
+    → Starts (role_of following k.class) w
 token_starts following k w rest (is_word kind v more m s r) = (valued_fits following k w s.valued).1
 token_starts following k w rest (is_slash more r) = refl
 token_starts following k w rest (is_slash_equal more r) = refl

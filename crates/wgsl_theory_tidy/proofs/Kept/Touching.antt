@@ -12,7 +12,7 @@ use Rattle.wgsl_theory_printed.proofs.Spelling.Signs.{begins_name, begins_number
 use Rattle.wgsl_theory_printed.proofs.Spelling.Ends.{no_such, name_no_number, name_no_symbol, number_ends_before}
 use Rattle.wgsl_theory_printed.proofs.Fits.FittingWords.{point_number, no_digit}
 use Rattle.wgsl_theory_printed.proofs.Spelling.NoPeriods.{identifier_takes_none}
-use Rattle.wgsl_model_tidy.specs.Roles.{Role, begins_operand, wants_operand, name, unsuffixed, number, word, else_word, opening, closing, template_start, template_end, block_start, block_end, comma, semicolon, colon, period, at, minus, ampersand, prefix, binary, step, item_end, attribute}
+use Rattle.wgsl_model_tidy.specs.Roles.{Role, begins_operand, wants_operand, name, unsuffixed, number, word, else_word, opening, closing, template_start, template_end, block_start, block_end, comma, semicolon, colon, period, at, minus, ampersand, prefix, binary, assign, step, item_end, attribute}
 use Rattle.wgsl_model_tidy.specs.Joints.{closed_up}
 use Rattle.wgsl_theory_tidy.proofs.Kept.Alone.{IsAlone, alone_ends, alone_before, paren_left_alone, paren_right_alone, comma_alone, colon_alone, semicolon_alone, at_alone, bracket_left_alone, bracket_right_alone, tilde_alone}
 
@@ -301,6 +301,7 @@ arrow_touches d = sign_ends_before 45 (62 ∷ []) (d ∷ []) minus_no_name refl 
 -- attributes
 abbrev pub is_tight_only : Role → Bool
 is_tight_only binary = true
+is_tight_only assign = true
 is_tight_only block_start = true
 is_tight_only block_end = true
 is_tight_only semicolon = true
@@ -318,6 +319,7 @@ tight_only left semicolon t h = refl
 tight_only left colon t h = refl
 tight_only left closing t h = refl
 tight_only binary right t h = absurd (true≢false (sym h))
+tight_only assign right t h = absurd (true≢false (sym h))
 tight_only block_start right t h = absurd (true≢false (sym h))
 tight_only block_end right t h = absurd (true≢false (sym h))
 tight_only semicolon right t h = absurd (true≢false (sym h))

@@ -11,7 +11,8 @@ abbrev pub invariant-pieces : goal.invariant-pieces
 invariant-pieces l = record {
   text : shadow (Utf8 l.rest);
   follows : (following : ℕ → List Piece) → MayFollow following l.has_next
-      → is_followed (comments following outside 0 (chars l.text)) ≡ is_followed (comments following outside 0 (chars l.rest));
+      → is_followed (comments following outside 0 (chars l.text))
+      ≡ is_followed (comments following outside 0 (chars l.rest));
 }
 
 abbrev pub decreases-pieces : goal.decreases-pieces
