@@ -93,6 +93,7 @@ programs:
 	@tools/fuzz --program crates/wgslfmt/out/wgslfmt \
 	    || { echo "Failed: tools/fuzz, as the lines above say."; exit 1; }
 	@tools/nests --program crates/wgsltidy/out/wgsltidy --printer crates/wgslfmt/out/wgslfmt \
+	    --minifier crates/wgslmin/out/wgslmin \
 	    || { echo "Failed: tools/nests, as the lines above say."; exit 1; }
 	@tools/tidy_texts --program crates/wgsltidy/out/wgsltidy --printer crates/wgslfmt/out/wgslfmt \
 	    || { echo "Failed: tools/tidy_texts, as the lines above say."; exit 1; }

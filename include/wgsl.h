@@ -22,10 +22,9 @@
  * is read, the buffer and the answer do not overlap; and there is enough stack.
  * A text nests as deep as its brackets, blocks, template lists and prefix operators do, and each
  * takes stack while the text is read: as measured over wgsl_recognize, wgsl_check, wgsl_format,
- * wgsl_tree and wgsl_packed_tree, at most 2,750 bytes for a block with its statement and 1,200 for
- * each other, in wgsl_minify 2,900 and 1,600, and in wgsl_tidy 1,250 for each. wgsl_nesting returns
- * how deep a text nests, and takes no such stack; nor does wgsl_print. A left operand, and what is
- * before a component or an index, takes none.
+ * wgsl_tree and wgsl_packed_tree, at most 2,800 bytes, in wgsl_minify 3,800, and in wgsl_tidy 1,900.
+ * wgsl_nesting returns how deep a text nests, and takes no such stack; nor does wgsl_print. A left
+ * operand, and what is before a component or an index, takes none.
  *
  * Memory. While it runs, a call takes memory by the program's malloc, realloc and free, and gives
  * all of it back before it returns. Where they fail, the status is WGSL_OUT_OF_MEMORY. The three

@@ -165,7 +165,7 @@ static int check_layouts(void) {
     CHECK(is_tidied(&layout, text, "fn f(a: i32) {\r\n\tx = a;\r\n} // f\r\n"));
     layout.newlines = WGSL_NEWLINES_LF;
     CHECK(is_tidied(&layout, "const a=1;\r\n", "const a = 1;\n"));
-    layout.width = 8;
+    layout.width = 12;
     CHECK(is_tidied(&layout, "const a=f(1,2);", "const a = f(\n\t1,\n\t2\n);\n"));
     CHECK(wgsl_tidy(&layout, text, sizeof text - 1, NULL, 0, &answer) == WGSL_TOO_SMALL);
     return 0;

@@ -9,9 +9,10 @@ PLAIN = {chr(it) for it in range(32, 127)} - {'"', "\\"}
 # how many texts of a seed are made, and how many bytes one has at most
 COUNT = 250
 LONGEST = 1_000
-# how many openings nests and chains have, and deep ones, which have to be accepted
+# how many openings nests and chains have, and deep ones, which nest at most so many levels deep
 DEPTH = 10
 DEEP = 190
+DEEPEST = 200
 
 
 def quoted(source):
@@ -41,11 +42,14 @@ def rows_of_nests():
         for variant in kind.variants:
             text = nest_texts.text_of_kind(kind, variant, DEPTH)
             shows = f"{DEPTH} openings, {variant}, {name}."
-            yield row_of(shows, "made", text.source, text.is_required)
+            yield row_of(shows, "made", text.source, text.is_module)
+            if text.is_module and kind.levels:
+                yield f'# {shows}\nnesting "{quoted(text.source)}"\ndepth {text.nesting}\n'
         deep = nest_texts.text_of_kind(kind, "whole", DEEP)
-        if "whole" in kind.variants and deep.is_required:
+        if "whole" in kind.variants and deep.nesting <= DEEPEST:
             shows = f"{DEEP} openings, {name}."
-            yield row_of(shows, f"parse_within {nest_texts.ACCEPTED}", deep.source, True)
+            yield row_of(shows, f"parse_within {deep.nesting + 1}", deep.source, True)
+            yield row_of(shows, f"tidy_within {deep.nesting}", deep.source, True)
 
 
 def write_rows(folder):

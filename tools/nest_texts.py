@@ -4,9 +4,8 @@ opening and with a wrong token innermost; brackets without an end or a start (BR
 mixtures of nests."""
 from typing import NamedTuple
 
-# how many levels have to be accepted, and how many of them are around a nest at most
-ACCEPTED = 200
-AROUND = 5
+# how deep a part of a chain nests at most
+INSIDE = 2
 # a token that is wrong before each closing, and those that are wrong anywhere
 WRONG = "@"
 STRAYS = ["# ", ") ", "] ", "} "]
@@ -55,6 +54,7 @@ NESTS = [
     (("value",), "(", "a", ")[0]", 1),
     (("value", "attribute"), "a<", "a", ">", 1),
     (("value",), "a<a, ", "a", ", 1>", 1),
+    (("operand",), "a<1 + 2 * ", "a", ">", 1),
     (("value",), "a<", "a", ">(a)", 1),
     (("value",), "a<(", "a", ")>", 2),
     (("value",), "a<f(", "a", ")>", 2),
@@ -71,6 +71,8 @@ NESTS = [
     (("operand",), "a < (", "a", ")", 1),
     (("operand",), "a >= (", "a", ")", 1),
     (("operand",), "a && (", "a", ")", 1),
+    (("operand",), "a && b + c * (", "a", ")", 1),
+    (("operand",), "a || b == c + d * f(", "a", ")", 1),
     (("operand",), "(", "a", " || a)", 1),
     (TYPES, "array<", "a", ">", 1),
     (TYPES, "array<", "a", ", 4>", 1),
@@ -144,7 +146,8 @@ BROKEN = [(start, part) for start in ("", "const x = ", "fn f() ", "fn f() { ", 
 
 
 class Kind(NamedTuple):
-    """A text with its opening and closing many times, with how many levels each of them is."""
+    """A text with its opening and closing many times, with how many levels each of them is; a chain
+    has none."""
 
     name: str
     before: str
@@ -155,13 +158,32 @@ class Kind(NamedTuple):
     levels: int
     variants: tuple
 
+    def around(self):
+        """How many levels there are beside its openings: brackets around them, and a block after
+        operators, which are open up to the token after it."""
+        is_before_block = not self.closing and self.after.startswith(" {")
+        return opened(self.before) + is_before_block
+
+    def nesting(self, depth):
+        """How deep the text with `depth` openings nests, of a chain at most."""
+        return self.around() + (self.levels * depth or INSIDE)
+
+    def openings(self, levels):
+        """How many openings nest at most so many levels deep."""
+        return (levels - self.around()) // self.levels
+
 
 class Text(NamedTuple):
-    """A text, whether it is a module, and whether it has to be accepted."""
+    """A text, whether it is a module, and then how deep it nests at most."""
 
     source: bytes
     is_module: bool
-    is_required: bool
+    nesting: int
+
+
+def opened(before):
+    """How many brackets are open after a text."""
+    return sum(map(before.count, "([{<")) - sum(map(before.replace("->", "").count, ")]}>"))
 
 
 def kinds():
@@ -191,9 +213,7 @@ def text_of_kind(kind, variant, depth):
         "cut": opened + kind.opening[:len(kind.opening) // 2],
         "broken": opened,
     }[variant]
-    is_whole = variant == "whole"
-    is_required = is_whole and (not kind.levels or kind.levels * depth + AROUND <= ACCEPTED)
-    return Text(source.encode(), is_whole, is_required)
+    return Text(source.encode(), variant == "whole", kind.nesting(depth))
 
 
 def nests_at(place):
@@ -216,6 +236,5 @@ def text_of_mixture(random, count, variant):
     source = before + "".join(openings + closings) + after
     if variant == "cut":
         source = source[:random.randrange(1, len(source))]
-    levels = sum(it[2] for it in statements + values)
-    is_whole = variant == "whole"
-    return Text(source.encode(), is_whole, is_whole and levels + AROUND <= ACCEPTED)
+    nesting = opened(before) + sum(it[2] for it in statements + values)
+    return Text(source.encode(), variant == "whole", nesting)

@@ -50,9 +50,12 @@ fn weighted(
         }
     }
     if (
-        sum.r > 0.5 && sum.g > 0.5 && sum.b > 0.5 && sum.a > 0.0 && all(
-            id.xy < vec2<u32>(last)
-        ) && lane != 0u
+        sum.r > 0.5
+            && sum.g > 0.5
+            && sum.b > 0.5
+            && sum.a > 0.0
+            && all(id.xy < vec2<u32>(last))
+            && lane != 0u
     ) {
         found = found + 1u;
     } // all of it is bright

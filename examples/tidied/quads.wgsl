@@ -30,10 +30,8 @@ const middle = array(vec2f(0.0, 0.0), vec2f(0.5, 0.0), vec2f(0.5, 0.5), vec2f(0.
     @location(0) offset: vec2<f32>
 ) -> VertexOutput {
     let corner = corners[vertex];
-    let scaled = ((corner * camera.scale) + (offset * vec2<f32>(f32(instance), 1.0))) + vec2<f32>(
-        camera.origin.x,
-        camera.origin.y
-    );
+    let scaled = ((corner * camera.scale) + (offset * vec2<f32>(f32(instance), 1.0)))
+        + vec2<f32>(camera.origin.x, camera.origin.y);
     return VertexOutput(
         vec4<f32>(scaled, 0.0, 1.0),
         (corner * vec2<f32>(0.5, -0.5)) + vec2<f32>(0.5, 0.5),
@@ -42,15 +40,14 @@ const middle = array(vec2f(0.0, 0.0), vec2f(0.5, 0.0), vec2f(0.5, 0.5), vec2f(0.
 }
 fn is_seen(position: vec2<f32>) -> bool {
     let b = camera.bounds;
-    return ((position.x >= b.minimum.x) && (position.x <= b.maximum.x)) && (
-        (position.y >= b.minimum.y) && (position.y <= b.maximum.y)
-    );
+    return ((position.x >= b.minimum.x) && (position.x <= b.maximum.x))
+        && ((position.y >= b.minimum.y) && (position.y <= b.maximum.y));
 }
 
 @fragment fn shade(in: VertexOutput) -> @location(0) vec4<f32> {
-    if (((in.uv.x < 0.0) || (in.uv.x > 1.0)) || ((in.uv.y < 0.0) || (in.uv.y > 1.0))) && (
-        in.instance != 0u
-    ) {
+    if (((in.uv.x < 0.0) || (in.uv.x > 1.0)) || ((in.uv.y < 0.0) || (in.uv.y > 1.0)))
+        && (in.instance != 0u)
+    {
         discard;
     }
     return mix(

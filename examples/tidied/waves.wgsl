@@ -34,8 +34,7 @@ fn height_at(place: vec2<f32>) -> vec3<f32> {
 
     for (var i = 0u; i < 4u; i++) { // each wave
         let wave = waves[i];
-        let phase = dot(place, wave.direction) * (6.28 / wave.length)
-            + camera.time; // all waves run as fast
+        let phase = dot(place, wave.direction) * (6.28 / wave.length) + camera.time; // all waves run as fast
         sum += vec3<f32>(wave.direction * cos(phase), /* height */ sin(phase)) * wave.height;
     }
     return sum;
@@ -44,10 +43,7 @@ fn height_at(place: vec2<f32>) -> vec3<f32> {
 }
 
 @fragment
-fn shade(
-    @location(0) normal: vec3<f32>,
-    @location(1) depth: f32
-) -> @location(0) Color {
+fn shade(@location(0) normal: vec3<f32>, @location(1) depth: f32) -> @location(0) Color {
     if depth > 0.5 && normal.y < 0.99 {
         return deep;
     }

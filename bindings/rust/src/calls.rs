@@ -312,10 +312,9 @@ pub fn begins_with_template_list(text: &str) -> Result<bool, Fault> {
 /// Returns the greatest number of brackets, blocks, template lists and prefix operators that are
 /// open at one place of a text, up to its first invalid token.
 ///
-/// Reading a text takes stack for each: in the library at most 2,750 bytes for a block with its
-/// statement and 1,200 for each other, in [`minify`](crate::minify) 2,900 and 1,600, and in
-/// [`tidy`](crate::tidy) 1,250 for each. This call takes no such stack, nor does [printing a
-/// tree](crate::syntax#printing).
+/// Reading a text takes stack for each: in the library at most 2,800 bytes, in
+/// [`minify`](crate::minify) 3,800, and in [`tidy`](crate::tidy) 1,900. This call takes no such
+/// stack, nor does [printing a tree](crate::syntax#printing).
 ///
 /// # Errors
 ///

@@ -148,6 +148,18 @@ impl Fault {
         self.kind != FaultKind::OutOfMemory
     }
 
+    /// A text is an expression, where a type is wanted.
+    pub(crate) fn no_type(text: &str) -> Fault {
+        Fault {
+            kind: FaultKind::UnexpectedToken,
+            span: Span::new(0..text.len()),
+            line: 1,
+            column: 1,
+            message: "unexpected expression, expected `type`".to_owned(),
+            expected: vec!["type".to_owned()],
+        }
+    }
+
     /// An allocation failed.
     pub(crate) fn out_of_memory() -> Fault {
         Fault {

@@ -2,7 +2,7 @@
 //!
 //! What a call requires, as `wgsl.h` says, is what Rust's references give: memory that can be read
 //! or written, is apart and stays as it is for the call. Of the stack, each level of nesting
-//! takes at most 2,900 bytes as measured, and no function takes a page at once, as
+//! takes at most 3,800 bytes as measured, and no function takes a page at once, as
 //! tools/library_tests checks: so a text which nests too deep reaches the guard page at the end of
 //! the stack, as a recursion of Rust's does, and ends the process.
 

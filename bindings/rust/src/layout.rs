@@ -107,7 +107,7 @@ pub fn tidy(text: &str) -> Result<String, Fault> {
 /// ```
 /// use centrelilac::{Indent, Layout, Newlines};
 ///
-/// let layout = Layout { width: 8, indent: Indent::Spaces(2), newlines: Newlines::Lf };
+/// let layout = Layout { width: 12, indent: Indent::Spaces(2), newlines: Newlines::Lf };
 /// let text = centrelilac::tidy_with("const a=f(1,2);\r\n", layout)?;
 /// assert_eq!(text, "const a = f(\n  1,\n  2\n);\n");
 /// # Ok::<(), centrelilac::Fault>(())

@@ -32,6 +32,16 @@
 //! # Ok::<(), centrelilac::Fault>(())
 //! ```
 //!
+//! Long lines are not broken, and an empty block has an empty line. [`tidy`](crate::tidy) lays such a
+//! text out as a formatter does:
+//!
+//! ```
+//! let unit = centrelilac::parse("fn f() { loop {} }")?;
+//! let text = centrelilac::tidy(&unit.to_string())?;
+//! assert_eq!(text, "fn f() {\n    loop {}\n}\n");
+//! # Ok::<(), centrelilac::Fault>(())
+//! ```
+//!
 //! A tree that was parsed prints to a text that parses to an equal tree without its empty items. In
 //! a tree made by hand, each name is printed as it is spelled, and parentheses are printed only for
 //! a [`ParenthesizedExpression`]:
@@ -156,4 +166,31 @@ sources! {
     GlobalDeclaration = 2,
     Statement = 3,
     Expression = 4,
+}
+
+impl FromStr for TypeExpression {
+    type Err = Fault;
+
+    /// Reads a type, as `vec3<f32>`.
+    ///
+    /// # Errors
+    ///
+    /// The fault of the text, also if it is an expression but no type, or that allocation fails.
+    ///
+    /// # Examples
+    ///
+    /// ```
+    /// use centrelilac::syntax::TypeExpression;
+    ///
+    /// let ty: TypeExpression = "vec3<f32>".parse()?;
+    /// assert_eq!(ty.ident.name(), "vec3");
+    /// assert!("1 + 2".parse::<TypeExpression>().is_err());
+    /// # Ok::<(), centrelilac::Fault>(())
+    /// ```
+    fn from_str(text: &str) -> Result<Self, Fault> {
+        match text.parse()? {
+            Expression::TypeOrIdentifier(ty) => Ok(ty),
+            _ => Err(Fault::no_type(text)),
+        }
+    }
 }

@@ -11,6 +11,7 @@ use Rattle.wgsl_error.specs.declared.Error.{Error}
 use Rattle.wgsl_error.specs.declared.ErrorKind.{ErrorKind}
 use Rattle.wgsl_error.specs.declared.display.WithoutExpected.{WithoutExpected}
 use Rattle.wgsl_error.specs.declared.in_file.ErrorInFile.{ErrorInFile}
+use Rattle.wgsl_error.specs.declared.in_file.MessageInFile.{MessageInFile}
 use Rattle.wgsl_error.specs.declared.snippet.ErrorWithSource.{ErrorWithSource}
 use Rattle.wgsl_error.specs.declared.ErrorKind.TheVariants as error
 use Rattle.wgsl_error.specs.View.{kind_number, kind_texts, expected_texts}
@@ -51,3 +52,7 @@ print_error_with_source e = snippet (print_error_kind e.error.error)
 abbrev pub print_error_in_file : ErrorInFile → List ℕ
 print_error_in_file e = message_in_file e.name.now (print_message e.error.now.error)
     (chars e.source.now) (span_view e.error.now.span)
+
+-- the message in a named file
+abbrev pub print_message_in_file : MessageInFile → List ℕ
+print_message_in_file it = message_in_file it.name.now it.message.now (chars it.source.now) (span_view it.span)

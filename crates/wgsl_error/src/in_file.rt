@@ -1,13 +1,14 @@
-//! Errors in named files, which print as compilers print them.
+//! Errors and messages in named files, which print as compilers print them.
 
 ghost use Rattle.std.specs.Prelude.{◌≡◌, Some};
-ghost use Rattle.wgsl_error.specs.Printing.{print_error_in_file};
+ghost use Rattle.wgsl_error.specs.Printing.{print_error_in_file, print_message_in_file};
 
 use crate::Error;
 use crate::display::write_message;
 use crate::snippet::{line_and_column, write_marked_line};
 use std::fmt;
 use std::fmt::Write;
+use wgsl_span::Span;
 
 /// An error in a file with this name and this source. It prints `NAME:LINE:COLUMN: error: MESSAGE`,
 /// the line in which its span starts, and a line of carets below the span. The message is without
@@ -45,5 +46,25 @@ impl fmt::Display for ErrorInFile<'_> {
         write_message(&self.error.error, f)?;
         f.write_str("\n")?;
         write_marked_line(self.source, self.error.span, f)
+    }
+}
+
+/// A message at a span of a file with this name and this source, which prints as an error there.
+#[derive(Drop)]
+pub struct MessageInFile<'e> {
+    pub message: &'e str,
+    pub span: Span,
+    pub name: &'e str,
+    pub source: &'e str,
+}
+
+impl fmt::Display for MessageInFile<'_> {
+    ghost output = { λ it. Some (print_message_in_file it) };
+
+    fn fmt<W: fmt::Write>(&self, f: &mut fmt::Formatter<W>) -> fmt::Result {
+        let (line, column) = line_and_column(self.source, self.span);
+        let (name, message) = (self.name, self.message);
+        writeln!(f, "{name}:{line}:{column}: error: {message}")?;
+        write_marked_line(self.source, self.span, f)
     }
 }

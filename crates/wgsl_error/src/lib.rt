@@ -8,7 +8,7 @@ mod in_file;
 mod snippet;
 
 pub use display::WithoutExpected;
-pub use in_file::ErrorInFile;
+pub use in_file::{ErrorInFile, MessageInFile};
 pub use snippet::ErrorWithSource;
 use wgsl_span::Span;
 

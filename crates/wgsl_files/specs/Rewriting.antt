@@ -1,6 +1,8 @@
 -- What becomes of files that are rewritten.
 use Rattle.std.specs.Prelude.{◌≡◌, ◌≢◌, ℕ, true, List, string_bytes}
 use Rattle.std.specs.List.{AllByRecursion}
+use Rattle.wgsl_files.specs.declared.status.Status.{Status}
+use Rattle.wgsl_files.specs.declared.format.Refusal.{Refusal}
 use Rattle.wgsl_files.specs.declared.format.FormatError.{FormatError}
 use Rattle.wgsl_files.specs.declared.format.FormatError.TheVariants as format
 use Rattle.wgsl_files.specs.declared.error.FileError.{FileError}
@@ -13,10 +15,10 @@ use Rattle.wgsl_files.specs.declared.file.Rewritten.{Rewritten}
 use Rattle.wgsl_files.specs.declared.file.Rewritten.TheVariants as rewritten
 use Rattle.wgsl_files.specs.Files.{Files, Holds, HasNone, Same, Replaced}
 
--- a text is refused with this message, unless an allocation failed
-abbrev pub IsRefusal : (List ℕ → Type 0) → FormatError → Type 0
+-- a text is refused with this status and this message, unless an allocation failed
+abbrev pub IsRefusal : (Status → List ℕ → Type 0) → FormatError → Type 0
 IsRefusal refuses format.OutOfMemory = Unit {0}
-IsRefusal refuses (format.Refused message) = refuses (string_bytes message)
+IsRefusal refuses (format.Refused refusal) = refuses refusal.status (string_bytes refusal.message)
 
 -- an error of a store as one of a file
 abbrev pub file_error_of : StoreError → FileError
@@ -49,16 +51,17 @@ IsRewritten becomes mode old new path rewritten.Unchanged = IsKept becomes old n
 IsRewritten becomes mode old new path (rewritten.Changed before after) =
     IsChanged becomes mode old new path before.items after.items
 
--- the file has a text that is refused with this message
-abbrev pub IsRefused : (List ℕ → List ℕ → Type 0) → Files → List ℕ → List ℕ → Type 0
-IsRefused refuses files path message = (text : List ℕ) × Holds files path text × refuses text message
+-- the file has a text that is refused with this status and this message
+abbrev pub IsRefused : (List ℕ → Status → List ℕ → Type 0) → Files → List ℕ → Refusal → Type 0
+IsRefused refuses files path refusal = (text : List ℕ) × Holds files path text
+    × refuses text refusal.status (string_bytes refusal.message)
 
 -- why the file at the path was not rewritten: there is none, or its text is refused, or an
 -- allocation failed
-abbrev pub IsFileError : (List ℕ → List ℕ → Type 0) → Files → List ℕ → FileError → Type 0
+abbrev pub IsFileError : (List ℕ → Status → List ℕ → Type 0) → Files → List ℕ → FileError → Type 0
 IsFileError refuses files path error.OutOfMemory = Unit {0}
 IsFileError refuses files path (error.Failed e) = HasNone files path
-IsFileError refuses files path (error.Refused message) = IsRefused refuses files path (string_bytes message)
+IsFileError refuses files path (error.Refused refusal) = IsRefused refuses files path refusal
 
 -- no file but those at these paths has changed
 pub record ChangesOnly (paths : List (List ℕ)) (old new : Files) : Type 0 where

@@ -3,6 +3,7 @@
 ghost use Rattle.std.specs.Prelude.{◌≡◌};
 ghost use Rattle.wgsl_files.specs.Rewriting.{file_error_of};
 
+use crate::format::Refusal;
 use crate::store::StoreError;
 use std::io;
 
@@ -12,8 +13,8 @@ pub enum FileError {
     OutOfMemory,
     /// It could not be read or written.
     Failed(io::Error),
-    /// What is wrong with its text.
-    Refused(String),
+    /// Its text is refused.
+    Refused(Refusal),
 }
 
 impl From<StoreError> for FileError {

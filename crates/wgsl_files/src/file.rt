@@ -46,7 +46,7 @@ pub fn rewrite<S: Store, F: Format>(
     let after = match format.format(alloc, before.as_slice()) {
         Ok(after) => after,
         Err(FormatError::OutOfMemory) => return Err(FileError::OutOfMemory),
-        Err(FormatError::Refused(message)) => return Err(FileError::Refused(message)),
+        Err(FormatError::Refused(refusal)) => return Err(FileError::Refused(refusal)),
     };
     if before == after {
         return Ok(Rewritten::Unchanged);

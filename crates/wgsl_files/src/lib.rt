@@ -13,7 +13,7 @@ mod walk;
 
 pub use error::FileError;
 pub use file::{Mode, Rewritten, rewrite};
-pub use format::{Format, FormatError};
+pub use format::{Format, FormatError, Refusal};
 pub use host::HostStore;
 pub use memory::MemoryStore;
 pub use status::Status;

@@ -15,6 +15,7 @@ pub enum Status {
     Refused,
     /// A file could not be read or written.
     Failed,
+    /// An allocation failed, or a text nests too deep.
     OutOfMemory,
 }
 

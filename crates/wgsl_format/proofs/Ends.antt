@@ -33,6 +33,7 @@ pub outcome_within : (report : Report) → (outcome_of report).status ≤ 4
 outcome_within (reports.Written text) = omega arith
 outcome_within (reports.Refused line) = omega arith
 outcome_within reports.NotUtf8 = omega arith
+outcome_within (reports.TooDeep line) = omega arith
 outcome_within reports.OutOfMemory = omega arith
 outcome_within reports.Unread = omega arith
 

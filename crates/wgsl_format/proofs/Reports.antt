@@ -1,6 +1,6 @@
 -- What is said of a source that is refused, or is no text.
-use Rattle.std.proofs.Common.{◌≡◌, ◌⊎◌, inl, inr, ℕ, false, List, ◌++◌, sym, subst, ap, arith}
-use Rattle.std.specs.Prelude.{codes, Result, Ok, Err, IfOk}
+use Rattle.std.proofs.Common.{◌≡◌, ◌⊎◌, inl, inr, ℕ, true, false, List, ◌++◌, chars, sym, subst, ap, arith}
+use Rattle.std.specs.Prelude.{codes, Option, Some, Result, Ok, Err, IfOk}
 use Rattle.std.specs.declared.alloc.AllocError.{AllocError}
 use Rattle.std.specs.Str.{is_utf8, IsUtf8}
 use Rattle.std.proofs.lemmas.Bool.{false_from_ne_true}
@@ -13,6 +13,7 @@ use Rattle.wgsl_error.specs.declared.ParseError.TheVariants as parse
 use Rattle.wgsl_error.specs.Kinds.{error_at}
 use Rattle.wgsl_error.specs.View.{fault_view}
 use Rattle.wgsl_format.specs.declared.report.Report.{Report}
+use Rattle.wgsl_format.specs.Deeper.{FormatsWithin, IsTooDeep}
 use Rattle.wgsl_format.specs.Report.{outcome_of}
 
 -- the bytes are no text
@@ -37,6 +38,15 @@ pub refused_writes : (Writes : List ℕ → ProcessOutput → Type 0)
 refused_writes Writes IsFault bytes e (Ok report) writes named told other = subst (Writes bytes)
     (sym told) (writes (fault_view e) (is_fault IsFault e named other))
 refused_writes Writes IsFault bytes e (Err memory) writes named told other = told
+
+-- So is one of bytes that nest deeper than a limit.
+pub deeper_writes : (limit : Option ℕ) (depth : ℕ) (bytes : List ℕ) (made : Result Report AllocError)
+    → limit ≡ Some depth → is_utf8 bytes ≡ true
+    → IfOk made (λ report. IsTooDeep depth (chars bytes) (outcome_of report))
+    → IfOk made (λ report. FormatsWithin limit bytes (outcome_of report))
+deeper_writes limit depth bytes (Ok report) some valid deep =
+    subst (λ l. FormatsWithin l bytes (outcome_of report)) (sym some) (inr (valid, deep))
+deeper_writes limit depth bytes (Err memory) some valid deep = deep
 
 -- and no text is made of these bytes
 pub refused_makes : (IsMade : List ℕ → Type 0) (line : List ℕ) (made : Result Report AllocError)

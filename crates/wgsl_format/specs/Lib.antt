@@ -3,3 +3,4 @@ pub mod Told
 pub mod Report
 pub mod Run
 pub mod RunOutput
+pub mod Deeper

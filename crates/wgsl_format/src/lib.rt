@@ -1,6 +1,7 @@
 //! `wgslfmt` over any reader and writers, and the formatted text of a module.
 #![tactic(auto)]
 
+mod deeper;
 mod formatter;
 mod printer;
 mod printing;
@@ -10,11 +11,13 @@ mod source;
 mod streams;
 mod tidied;
 
+pub use deeper::deeper_in_file;
 pub use formatter::Formatter;
 pub use printer::Printer;
 pub use printing::{run, start, start_with};
 pub use program::run_with;
 pub use report::Report;
+pub use source::unmarked;
 pub use streams::{ReadError, read_all, refuse_memory, send};
 pub use tidied::{tidy, tidy_with, tidy_within};
 pub use wgsl_format_layout::{Indent, Layout, Newlines};

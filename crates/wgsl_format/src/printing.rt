@@ -3,6 +3,7 @@
 ghost use Rattle.std.specs.Prelude.{◌≡◌, ◌<◌};
 ghost use Rattle.std.specs.Io.KnownBytes.{Appends};
 ghost use Rattle.wgsl_model.specs.Program.{ProcessOutput, Formats};
+ghost use Rattle.wgsl_format.specs.Deeper.{FormatsWithin};
 ghost use Rattle.wgsl_format.specs.Ends.{GoesOut};
 ghost use Rattle.wgsl_format.specs.Run.{Runs};
 ghost use Rattle.wgsl_format.specs.RunOutput.{IsReprinted, no_arguments};
@@ -15,7 +16,7 @@ use std::io::{Read, Write};
 
 /// A printer of modules of any depth, for calls after which the process goes on.
 const PRINTER: Printer = Printer {
-    depth: usize::MAX,
+    depth: None,
     ends: false,
 };
 
@@ -65,7 +66,7 @@ pub fn start_with<R: Read, W: Write, E: Write>(
     output: &mut W,
     errors: &mut E,
 ) -> u8
-    ensures runs { arguments ≡ 0 → Runs Formats IsReprinted
+    ensures runs { arguments ≡ 0 → Runs (FormatsWithin printer.now.depth) IsReprinted
         (R.remaining input.old) (R.remaining input.new) W.contents output.old output.new
         (E.contents errors.old) (E.contents errors.new) result }
 

@@ -26,6 +26,13 @@ pub(crate) fn split_mark(source: &str) -> (&str, &str)
     }
 }
 
+/// Returns the text of a source after its byte order mark.
+pub fn unmarked(source: &str) -> &str
+    ensures { chars result.now ≡ model.unmarked (chars source.now) }
+{
+    split_mark(source).1
+}
+
 /// An error in the text after a number of bytes of a source, with its place in the source. That
 /// allocation failed has no place.
 pub(crate) fn error_after(bytes: usize, error: Error) -> Error

@@ -18,9 +18,6 @@ use wgsl_format_layout::{Layout, laid_out};
 use wgsl_lexer::TextTokens;
 use wgsl_read_dialect::check_syntax;
 
-/// How many rules of the grammar at most are inside one another for each level.
-const RULES: usize = 8;
-
 /// Returns the formatted text of a module: its tokens and its comments as they are, in order, and
 /// between them the white space that the rules of the layout ask for, with lines of up to 100
 /// columns where a line break at a bracket can make them so, and four spaces a level. A byte order
@@ -85,9 +82,8 @@ pub fn tidy_within(
         Keeps (layout_view layout) (chars source.now) (chars (string_bytes text))) }
 {
     let (mark, text) = split_mark(source);
-    let tokens = TextTokens::within(alloc, text, depth)?;
-    let rules = depth.saturating_mul(RULES);
-    if let Err(error) = check_syntax(alloc, text, tokens.clone(alloc)?, rules) {
+    let tokens = TextTokens::new(alloc, text)?;
+    if let Err(error) = check_syntax(alloc, text, tokens.clone(alloc)?, depth) {
         return Err(error_after(mark.len(), error));
     }
     let laid = laid_out(alloc, text, tokens, layout)?;

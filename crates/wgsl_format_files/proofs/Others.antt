@@ -3,6 +3,7 @@ use Rattle.std.proofs.Common.{◌≢◌, refl, sym, ◌∙◌, subst, ℕ, List,
 use Rattle.wgsl_format_options.specs.Options.{Source, standard_input, path}
 use Rattle.wgsl_format_options.specs.declared.options.Mode.{Mode}
 use Rattle.wgsl_format_options.specs.declared.options.Mode.TheVariants.{Write, Check, Diff}
+use Rattle.wgsl_files.specs.declared.status.Status.{Status}
 use Rattle.wgsl_files.specs.Files.{Files, Same}
 use Rattle.wgsl_files.specs.Rewriting.{Written, ChangesOnly}
 use Rattle.wgsl_files.proofs.Runs.{same_same, same_changes}
@@ -40,7 +41,7 @@ then_others name names a b c one rest = record {
 same_self : (files : Files) → Same files files
 same_self files = record { known = refl; each = λ _ _. refl }
 
-module _ (becomes refuses : List ℕ → List ℕ → Type 0) (mode : Mode) where
+module _ (becomes : List ℕ → List ℕ → Type 0) (refuses : List ℕ → Status → List ℕ → Type 0) (mode : Mode) where
   -- what comes of one file changes no other
   file_others : (old new : Files) (name : List ℕ) (came : Event)
       → ComesOfFile becomes refuses mode old new name came → ChangesOnly (name ∷ []) old new
@@ -50,7 +51,7 @@ module _ (becomes refuses : List ℕ → List ℕ → Type 0) (mode : Mode) wher
   file_others old new name (event.Printed text) none = absurd none
   file_others old new name (event.WouldChange shown) changes =
       written_others mode old new name changes.after changes.changed.written
-  file_others old new name (event.Refused message) refused = same_changes (name ∷ []) old new refused.1
+  file_others old new name (event.Refused refusal) refused = same_changes (name ∷ []) old new refused.1
   file_others old new name (event.Failed reason) failed = same_changes (name ∷ []) old new failed.1
   file_others old new name event.OutOfMemory same = same_changes (name ∷ []) old new same
 
@@ -62,11 +63,11 @@ module _ (becomes refuses : List ℕ → List ℕ → Type 0) (mode : Mode) wher
   file_nothing old new name (event.Printed text) other none = absurd none
   file_nothing old new name (event.WouldChange shown) other changes =
       written_nothing mode old new name changes.after other changes.changed.written
-  file_nothing old new name (event.Refused message) other refused = refused.1
+  file_nothing old new name (event.Refused refusal) other refused = refused.1
   file_nothing old new name (event.Failed reason) other failed = failed.1
   file_nothing old new name event.OutOfMemory other same = same
 
-module _ (becomes : Files → Source → List ℕ → List ℕ → Type 0) (refuses : List ℕ → List ℕ → Type 0)
+module _ (becomes : Files → Source → List ℕ → List ℕ → Type 0) (refuses : List ℕ → Status → List ℕ → Type 0)
     (mode : Mode) (stdin_name : List ℕ) where
   -- a run changes no file but those that it is given
   pub only_named : (inputs : List Source) (old new : State) (came : List Came)

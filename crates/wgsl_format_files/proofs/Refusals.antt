@@ -1,28 +1,57 @@
 -- What the formatter of files makes of bytes.
-use Rattle.std.proofs.Common.{◌≡◌, ◌⊎◌, inl, inr, sym, ap, subst, ℕ, true, false, List, chars}
+use Rattle.std.proofs.Common.{◌≡◌, ◌⊎◌, inl, inr, refl, sym, ap, subst, ℕ, true, false, List, [], chars, string_bytes}
 use Rattle.std.specs.Str.{is_utf8}
 use Rattle.wgsl_error.specs.declared.Error.{Error}
+use Rattle.wgsl_error.specs.declared.ErrorKind.TheVariants as kinds
+use Rattle.wgsl_error.specs.Places.{message_in_file}
+use Rattle.wgsl_error.specs.Printing.{print_message}
 use Rattle.wgsl_error.specs.View.{fault_view}
+use Rattle.wgsl_span.specs.View.{span_view}
+use Rattle.wgsl_format.specs.Deeper.{IsDeeperInFile}
+use Rattle.wgsl_files.specs.declared.status.Status.TheVariants as status
 use Rattle.wgsl_files.specs.declared.format.FormatError.{FormatError}
 use Rattle.wgsl_files.specs.declared.format.FormatError.TheVariants as format
 use Rattle.wgsl_files.specs.Rewriting.{IsRefusal}
+use Rattle.wgsl_model_tidy.specs.Formatted.{unmarked}
 use Rattle.wgsl_model_tidy.specs.Syntax.{IsFaultAfterMark}
 use Rattle.wgsl_error.specs.declared.ParseError.TheVariants as parse
 use Rattle.wgsl_error.specs.Kinds.{error_at}
-use Rattle.wgsl_format_files.specs.Tidy.{Refuses, Refuses.named, Refuses.undecoded, IsRefusedFor, IsNotUtf8}
+use Rattle.wgsl_format_files.specs.Tidy.{Refuses, Refuses.named, Refuses.undecoded, Refuses.too_deep, IsRefusedFor, IsNotUtf8, IsTooDeep, levels}
+
+-- a source that nests too deep is refused for an error, too
+pub deep_refused : (e : Error) (source : List ℕ) (made : FormatError) → IsRefusal (IsTooDeep source) made
+    → IsRefusal (IsRefusedFor e source) made
+deep_refused e source format.OutOfMemory told = told
+deep_refused e source (format.Refused refusal) told = inl told
+
+-- so is one that has an error
+pub error_refused : (e : Error) (source message : List ℕ)
+    → message ≡ message_in_file [] (print_message e.error) source (span_view e.span)
+    → ¬ (e.error ≡ kinds.OutOfMemory) → IsRefusedFor e source status.Refused message
+error_refused e source message told other = inr (refl, told, other)
+
+-- it nests too deep after its byte order mark
+pub deep_told : (source text message : List ℕ) → text ≡ unmarked source
+    → IsDeeperInFile levels [] text message → IsTooDeep source status.OutOfMemory message
+deep_told source text message same told = (refl, subst (λ t. IsDeeperInFile levels [] t message) same told)
 
 -- bytes that are no text are refused
 pub refused_undecoded : (bytes : List ℕ) (made : FormatError) → is_utf8 bytes ≡ false
-    → IsNotUtf8 made → IsRefusal (Refuses bytes) made
+    → IsRefusal IsNotUtf8 made → IsRefusal (Refuses bytes) made
 refused_undecoded bytes format.OutOfMemory invalid told = told
-refused_undecoded bytes (format.Refused text) invalid told = subst (Refuses bytes) (sym told) (undecoded invalid)
+refused_undecoded bytes (format.Refused refusal) invalid (code, told) =
+    subst (λ s. Refuses bytes s (string_bytes refusal.message)) (sym code)
+    (subst (Refuses bytes status.Refused) (sym told) (undecoded invalid))
 
--- a text is refused for the error that is named of it
+-- a text is refused for the error that is named of it, or since it nests too deep
 pub refused_named : (bytes : List ℕ) (e : Error) (made : FormatError) → is_utf8 bytes ≡ true
     → (e ≡ error_at parse.OutOfMemory 0 0) ⊎ IsFaultAfterMark (chars bytes) (fault_view e)
-    → IsRefusedFor e (chars bytes) made → IsRefusal (Refuses bytes) made
+    → IsRefusal (IsRefusedFor e (chars bytes)) made → IsRefusal (Refuses bytes) made
 refused_named bytes e format.OutOfMemory valid fault told = told
-refused_named bytes e (format.Refused text) valid (inl memory) (told, other) =
+refused_named bytes e (format.Refused refusal) valid fault (inl (code, told)) =
+    subst (λ s. Refuses bytes s (string_bytes refusal.message)) (sym code) (too_deep _ valid told)
+refused_named bytes e (format.Refused refusal) valid (inl memory) (inr (code, told, other)) =
     absurd (other (ap (λ (x : Error). x.error) memory))
-refused_named bytes e (format.Refused text) valid (inr fault) (told, other) = subst (Refuses bytes)
-    (sym told) (named (fault_view e) valid fault)
+refused_named bytes e (format.Refused refusal) valid (inr fault) (inr (code, told, other)) =
+    subst (λ s. Refuses bytes s (string_bytes refusal.message)) (sym code)
+    (subst (Refuses bytes status.Refused) (sym told) (named (fault_view e) valid fault))

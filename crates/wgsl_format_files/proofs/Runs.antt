@@ -4,6 +4,7 @@ use Rattle.std.proofs.lemmas.Grind.{flat_map-append}
 use Rattle.std.proofs.lemmas.List.{append-nil, length-append, map-append, take_more}
 use Rattle.wgsl_format_options.specs.Options.{Source}
 use Rattle.wgsl_format_options.specs.declared.options.Mode.{Mode}
+use Rattle.wgsl_files.specs.declared.status.Status.{Status}
 use Rattle.wgsl_files.specs.Files.{Files}
 use Rattle.wgsl_files.specs.Statuses.{code_of}
 use Rattle.wgsl_format_files.specs.declared.event.Event.{Event}
@@ -61,7 +62,7 @@ all_more f whole more came one a b c wrote written =
     subst (λ bs. Wrote more bs a c) text
     (wrote_more whole more (flat_map f came) (f one) a b c wrote written)
 
-module _ (becomes : Files → Source → List ℕ → List ℕ → Type 0) (refuses : List ℕ → List ℕ → Type 0)
+module _ (becomes : Files → Source → List ℕ → List ℕ → Type 0) (refuses : List ℕ → Status → List ℕ → Type 0)
     (mode : Mode) (quiet : Bool) (stdin_name : List ℕ) where
   -- what came of some inputs, and then of one more
   comes_more : (inputs : List Source) (source : Source) (a b c : State) (came : List Came) (event : Event)

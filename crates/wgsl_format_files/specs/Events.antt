@@ -19,7 +19,7 @@ status_of event.Unchanged = status.Success
 status_of event.Formatted = status.Success
 status_of (event.Printed text) = status.Success
 status_of (event.WouldChange text) = status.WouldChange
-status_of (event.Refused message) = status.Refused
+status_of (event.Refused refusal) = refusal.status
 status_of (event.Failed reason) = status.Failed
 status_of event.OutOfMemory = status.OutOfMemory
 
@@ -29,7 +29,7 @@ is_changed event.Unchanged = false
 is_changed event.Formatted = true
 is_changed (event.Printed text) = true
 is_changed (event.WouldChange text) = true
-is_changed (event.Refused message) = false
+is_changed (event.Refused refusal) = false
 is_changed (event.Failed reason) = false
 is_changed event.OutOfMemory = false
 
@@ -39,7 +39,7 @@ is_failed event.Unchanged = false
 is_failed event.Formatted = false
 is_failed (event.Printed text) = false
 is_failed (event.WouldChange text) = false
-is_failed (event.Refused message) = true
+is_failed (event.Refused refusal) = true
 is_failed (event.Failed reason) = true
 is_failed event.OutOfMemory = true
 
@@ -49,7 +49,7 @@ shown_by event.Unchanged = []
 shown_by event.Formatted = []
 shown_by (event.Printed text) = text.items
 shown_by (event.WouldChange text) = text.items
-shown_by (event.Refused message) = []
+shown_by (event.Refused refusal) = []
 shown_by (event.Failed reason) = []
 shown_by event.OutOfMemory = []
 
@@ -59,7 +59,7 @@ message_of event.Unchanged = None
 message_of event.Formatted = None
 message_of (event.Printed text) = None
 message_of (event.WouldChange text) = None
-message_of (event.Refused message) = Some ([], string_bytes message)
+message_of (event.Refused refusal) = Some ([], string_bytes refusal.message)
 message_of (event.Failed reason) = Some (codes ": error: ", string_bytes reason)
 message_of event.OutOfMemory = Some (codes ": error: ", codes "out of memory")
 
@@ -93,7 +93,7 @@ IsToldOfChange mode name before after event.Unchanged = ⊥
 IsToldOfChange mode name before after event.Formatted = mode ≡ Write
 IsToldOfChange mode name before after (event.Printed text) = ⊥
 IsToldOfChange mode name before after (event.WouldChange text) = IsShown mode name before after text.items
-IsToldOfChange mode name before after (event.Refused message) = ⊥
+IsToldOfChange mode name before after (event.Refused refusal) = ⊥
 IsToldOfChange mode name before after (event.Failed reason) = ⊥
 IsToldOfChange Write name before after event.OutOfMemory = ⊥
 IsToldOfChange Check name before after event.OutOfMemory = Unit {0}
@@ -111,7 +111,7 @@ IsFailure event.Unchanged = ⊥
 IsFailure event.Formatted = ⊥
 IsFailure (event.Printed text) = ⊥
 IsFailure (event.WouldChange text) = ⊥
-IsFailure (event.Refused message) = ⊥
+IsFailure (event.Refused refusal) = ⊥
 IsFailure (event.Failed reason) = Unit {0}
 IsFailure event.OutOfMemory = Unit {0}
 

@@ -5,6 +5,7 @@ use Rattle.std.specs.Fmt.{decimal}
 use Rattle.wgsl_format_options.specs.Options.{Source, standard_input, path}
 use Rattle.wgsl_format_options.specs.declared.options.Mode.{Mode}
 use Rattle.wgsl_format_options.specs.declared.options.Mode.TheVariants.{Write, Check, Diff}
+use Rattle.wgsl_files.specs.declared.status.Status.{Status}
 use Rattle.wgsl_files.specs.Files.{Files}
 use Rattle.wgsl_files.specs.Statuses.{code_of}
 use Rattle.wgsl_format_files.specs.declared.event.Event.{Event}
@@ -23,7 +24,7 @@ state files left = record { files = files; left = left }
 
 -- what comes of one input, whose text becomes another by the files that there are: of the standard
 -- input, which changes no file; of a file, for which nothing is read of the standard input
-abbrev pub ComesOf : (Files → Source → List ℕ → List ℕ → Type 0) → (List ℕ → List ℕ → Type 0) → Mode
+abbrev pub ComesOf : (Files → Source → List ℕ → List ℕ → Type 0) → (List ℕ → Status → List ℕ → Type 0) → Mode
     → List ℕ → State → State → Source → Event → Type 0
 ComesOf becomes refuses mode stdin_name old new standard_input event =
     ComesOfInput (becomes old.files standard_input) refuses mode old.left stdin_name event × (new.files ≡ old.files)
@@ -41,7 +42,7 @@ WroteMore true more text old new = Wrote more text old new
 WroteMore false more text old new = (more ≡ false) × (new ≡ old)
 
 -- what came of each input, in order, one after another
-abbrev pub ComesOfAll : (Files → Source → List ℕ → List ℕ → Type 0) → (List ℕ → List ℕ → Type 0)
+abbrev pub ComesOfAll : (Files → Source → List ℕ → List ℕ → Type 0) → (List ℕ → Status → List ℕ → Type 0)
     → Mode → List ℕ → State → State → List Source → List Came → Type 0
 ComesOfAll becomes refuses mode stdin_name old new [] came = (came ≡ []) × (new ≡ old)
 ComesOfAll becomes refuses mode stdin_name old new (source ∷ sources) came =
@@ -95,7 +96,7 @@ pub record IsStatus (whole : Bool) (called status : ℕ) : Type 0 where
 
 -- a run over inputs from one state to another, with what the output and the errors hold before and
 -- after it, and its status
-pub record Runs (becomes : Files → Source → List ℕ → List ℕ → Type 0) (refuses : List ℕ → List ℕ → Type 0)
+pub record Runs (becomes : Files → Source → List ℕ → List ℕ → Type 0) (refuses : List ℕ → Status → List ℕ → Type 0)
     (mode : Mode) (quiet : Bool) (stdin_name : List ℕ) (inputs : List Source) (old new : State)
     (output written errors told : Option (List ℕ)) (status : ℕ) : Type 0 where
   pub came : List Came

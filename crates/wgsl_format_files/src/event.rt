@@ -5,7 +5,7 @@ ghost use Rattle.std.specs.Option.{option_copied};
 ghost use Rattle.wgsl_format_files.specs.Events.{status_of, is_changed, is_failed};
 ghost use Rattle.wgsl_format_files.specs.Events.{shown_by, message_of, pair_copied};
 
-use wgsl_files::Status;
+use wgsl_files::{Refusal, Status};
 
 /// The outcome of the text of a file, or of the standard input.
 #[derive(Debug, Drop)]
@@ -18,8 +18,8 @@ pub enum Event {
     Printed(Vec<u8>),
     /// It would change, and this shows it.
     WouldChange(Vec<u8>),
-    /// What is wrong with the text, after the name of its file.
-    Refused(String),
+    /// The text is refused; the message is what follows the name of its file.
+    Refused(Refusal),
     /// Why it could not be read or written.
     Failed(String),
     OutOfMemory,
@@ -33,7 +33,7 @@ impl Event {
         match self {
             Event::Unchanged | Event::Formatted | Event::Printed(_) => Status::Success,
             Event::WouldChange(_) => Status::WouldChange,
-            Event::Refused(_) => Status::Refused,
+            Event::Refused(refusal) => refusal.status,
             Event::Failed(_) => Status::Failed,
             Event::OutOfMemory => Status::OutOfMemory,
         }
@@ -74,7 +74,7 @@ impl Event {
         ensures { pair_copied result ≡ message_of self.now }
     {
         match self {
-            Event::Refused(message) => Some(("", message.as_str())),
+            Event::Refused(refusal) => Some(("", refusal.message.as_str())),
             Event::Failed(reason) => Some((": error: ", reason.as_str())),
             Event::OutOfMemory => Some((": error: ", "out of memory")),
             _ => None,

@@ -30,7 +30,7 @@ pub fn format_file<S: Store, F: Format>(
         }
         Err(FileError::OutOfMemory) => Event::OutOfMemory,
         Err(FileError::Failed(error)) => failed(alloc, error),
-        Err(FileError::Refused(message)) => Event::Refused(message),
+        Err(FileError::Refused(refusal)) => Event::Refused(refusal),
     }
 }
 

@@ -1,17 +1,19 @@
 //! The formatter of `wgsltidy` for files.
 
 ghost use Rattle.std.specs.Prelude.{chars};
+ghost use Rattle.wgsl_files.specs.Rewriting.{IsRefusal};
 ghost use Rattle.wgsl_format.specs.RunOutput.{IsTidiedBy};
 ghost use Rattle.wgsl_format_layout.specs.Layouts.{layout_view};
-ghost use Rattle.wgsl_format_files.specs.Tidy.{Refuses, IsRefusedFor, IsNotUtf8};
+ghost use Rattle.wgsl_format_files.specs.Tidy.{Refuses, IsRefusedFor, IsNotUtf8, IsTooDeep};
 
 use std::alloc::Global;
 use wgsl_error::{Error, ErrorKind};
-use wgsl_files::{Format, FormatError};
-use wgsl_format::{Layout, tidy_within};
+use wgsl_files::{Format, FormatError, Refusal, Status};
+use wgsl_format::{Layout, deeper_in_file, tidy_within, unmarked};
 
-/// How many levels deep a module may nest: a level takes at most 1,300 bytes of a stack of 8 MB.
-const DEPTH: usize = 1_000;
+/// How many levels deep a module may nest: a level takes at most 1,300 bytes of a stack of 8 MB, of
+/// which a third is spare.
+const DEPTH: usize = 4_000;
 
 /// The formatter of `wgsltidy` for files: a module becomes its formatted text by a layout. The
 /// message of a refusal is what follows the name of the file: the place and the error.
@@ -24,7 +26,7 @@ impl Format for Tidy {
     ghost becomes = { λ tidy text formatted.
         IsTidiedBy (layout_view tidy.layout) text formatted };
 
-    ghost refuses = { λ _ text message. Refuses text message };
+    ghost refuses = { λ _ text status message. Refuses text status message };
 
     fn format(&self, alloc: Global, text: &[u8]) -> Result<Vec<u8>, FormatError> {
         let Ok(source) = std::str::from_utf8(text) else {
@@ -38,24 +40,45 @@ impl Format for Tidy {
 }
 
 /// The refusal of a source for an error in it.
+#[tactic(auto, using(crate::proofs::Refusals::deep_refused, crate::proofs::Refusals::error_refused))]
 fn refusal(alloc: Global, source: &str, error: Error) -> FormatError
-    ensures { IsRefusedFor error (chars source.now) result }
+    ensures { IsRefusal (IsRefusedFor error (chars source.now)) result }
 {
     if matches!(error.error, ErrorKind::OutOfMemory) {
-        return FormatError::OutOfMemory;
+        return too_deep(alloc, source);
     }
     match error.in_file("", source).to_string(alloc) {
-        Ok(message) => FormatError::Refused(message),
+        Ok(message) => FormatError::Refused(Refusal {
+            status: Status::Refused,
+            message,
+        }),
         Err(_) => FormatError::OutOfMemory,
+    }
+}
+
+/// The refusal of a source that takes too much memory, which may be that of a stack.
+#[tactic(auto, using(crate::proofs::Refusals::deep_told))]
+fn too_deep(alloc: Global, source: &str) -> FormatError
+    ensures { IsRefusal (IsTooDeep (chars source.now)) result }
+{
+    match deeper_in_file(alloc, "", unmarked(source), DEPTH) {
+        Ok(Some(message)) => FormatError::Refused(Refusal {
+            status: Status::OutOfMemory,
+            message,
+        }),
+        _ => FormatError::OutOfMemory,
     }
 }
 
 /// The refusal of bytes that are no text.
 fn not_utf8(alloc: Global) -> FormatError
-    ensures { IsNotUtf8 result }
+    ensures { IsRefusal IsNotUtf8 result }
 {
     match String::from_str(alloc, ": error: not UTF-8") {
-        Ok(message) => FormatError::Refused(message),
+        Ok(message) => FormatError::Refused(Refusal {
+            status: Status::Refused,
+            message,
+        }),
         Err(_) => FormatError::OutOfMemory,
     }
 }

@@ -40,7 +40,7 @@ fn format_text<F: Format>(alloc: Global, format: &F, name: &str, mode: Mode, tex
         Ok(formatted) if formatted.as_slice() == text => Event::Unchanged,
         Ok(formatted) => changed(alloc, name, mode, text, formatted.as_slice()),
         Err(FormatError::OutOfMemory) => Event::OutOfMemory,
-        Err(FormatError::Refused(message)) => Event::Refused(message),
+        Err(FormatError::Refused(refusal)) => Event::Refused(refusal),
     }
 }
 

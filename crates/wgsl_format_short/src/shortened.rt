@@ -15,9 +15,6 @@ use wgsl_error::Error;
 use wgsl_lexer::TextTokens;
 use wgsl_read_dialect::check_syntax;
 
-/// How many rules of the grammar at most are inside one another for each level.
-const RULES: usize = 8;
-
 /// Returns the shortest text that has the tokens of a module: their characters, in order, and
 /// between two tokens a space if without it they would not be read as these two. Comments, line
 /// breaks and a byte order mark at the start are left out. Names are not checked, so the text may
@@ -55,9 +52,8 @@ pub fn shorten_within(alloc: Global, source: &str, depth: usize) -> Result<Strin
         IsLeast (chars source.now) (chars (string_bytes text))) }
 {
     let (mark, text) = split_mark(source);
-    let tokens = TextTokens::within(alloc, text, depth)?;
-    let rules = depth.saturating_mul(RULES);
-    if let Err(error) = check_syntax(alloc, text, tokens.clone(alloc)?, rules) {
+    let tokens = TextTokens::new(alloc, text)?;
+    if let Err(error) = check_syntax(alloc, text, tokens.clone(alloc)?, depth) {
         return Err(error_after(mark, error));
     }
     Ok(shortest(alloc, text, tokens)?)

@@ -1,10 +1,10 @@
 -- How deep the lines of a text are that begin with a token.
-use Rattle.std.specs.Prelude.{◌≡◌, ℕ, Bool, true, false, ◌==◌, if◌then◌else◌, List, [], ◌∷◌, ◌++◌, drop, Option, Some, None}
+use Rattle.std.specs.Prelude.{◌≡◌, ℕ, zero, suc, Bool, true, false, not, ◌||◌, ◌==◌, if◌then◌else◌, List, [], ◌∷◌, ◌++◌, drop, Option, Some, None}
 use Rattle.std.specs.Option.{option_map}
 use Rattle.grammar.specs.Tokens.{Token}
 use Rattle.grammar.specs.Grammar.{is_among}
 use Rattle.grammar.specs.Endings.{Ending.finished}
-use Rattle.wgsl_model.specs.Tokens.ClassTable.{SymParenLeft, SymParenRight, SymBracketLeft, SymBracketRight, SymBraceLeft, SymBraceRight, SymSemicolon, TemplateArgsStart, TemplateArgsEnd}
+use Rattle.wgsl_model.specs.Tokens.ClassTable.{SymComma, SymParenLeft, SymParenRight, SymBracketLeft, SymBracketRight, SymBraceLeft, SymBraceRight, SymSemicolon, TemplateArgsStart, TemplateArgsEnd}
 use Rattle.wgsl_model.specs.Tokens.TokenList.{IsTokenList, width}
 use Rattle.wgsl_model_tidy.specs.Brackets.{Line, blank, begun, in_comment, line_of}
 use Rattle.wgsl_model_tidy.specs.Layout.{Layout, level}
@@ -26,6 +26,11 @@ indent in_comment = None
 abbrev pub deeper : Layout → Option (List ℕ) → Option (List ℕ)
 deeper layout space = option_map (λ xs. level layout ++ xs) space
 
+-- so many levels more
+abbrev pub levels_deeper : Layout → ℕ → Option (List ℕ) → Option (List ℕ)
+levels_deeper layout zero space = space
+levels_deeper layout (suc n) space = deeper layout (levels_deeper layout n space)
+
 -- ---- what is open
 
 -- a token of a class opens a bracket, a template list or a block
@@ -39,6 +44,10 @@ closes class = is_among class (SymParenRight ∷ SymBracketRight ∷ TemplateArg
 -- a token of a class ends a statement, a declaration or a block, or begins a block
 abbrev pub ends_item : ℕ → Bool
 ends_item class = is_among class (SymSemicolon ∷ SymBraceLeft ∷ SymBraceRight ∷ [])
+
+-- or begins or ends an item of a bracket too
+abbrev pub ends_operands : ℕ → Bool
+ends_operands class = class == SymComma || (opens class || ends_item class)
 
 -- what is open, the innermost first: the class of the token that opens it, and the indent of a line
 -- that begins with the token that closes it
@@ -76,27 +85,36 @@ abbrev pub IsSpace : Option (List ℕ) → List ℕ → Type 0
 IsSpace (Some xs) space = space ≡ xs
 IsSpace None space = Unit {0}
 
--- A line begins with this blank space and then with a token of a class, where so much is open, after
--- an item or not. What closes the innermost is as deep as its line; any other token is one level
--- deeper, or in a block and outside of all maybe two, where no item ends before it.
-pub data IsIndented (layout : Layout) (opened : Opened) (after_item : Bool) (class : ℕ) (space : List ℕ)
+-- A line begins with this blank space and then with a token of a class, where so much is open,
+-- after
+-- an item or not, and in operands or not. What closes the innermost is as deep as its line; any
+-- other
+-- token is one level deeper, or in a block and outside of all maybe two, where no item ends before
+-- it, or
+-- in operands maybe more.
+pub data IsIndented (layout : Layout) (opened : Opened) (after_item in_operands : Bool) (class : ℕ) (space : List ℕ)
     : Type 0 where
   closing : closes class ≡ true → IsSpace (outer_indent opened) space
-      → IsIndented layout opened after_item class space
+      → IsIndented layout opened after_item in_operands class space
   inside : closes class ≡ false → IsSpace (inner_indent layout opened) space
-      → IsIndented layout opened after_item class space
+      → IsIndented layout opened after_item in_operands class space
   goes_on : closes class ≡ false → in_block opened ≡ true → after_item ≡ false
       → IsSpace (deeper layout (inner_indent layout opened)) space
-      → IsIndented layout opened after_item class space
+      → IsIndented layout opened after_item in_operands class space
+  between_operands : (more : ℕ) → closes class ≡ false → in_operands ≡ true
+      → IsSpace (levels_deeper layout more (inner_indent layout opened)) space
+      → IsIndented layout opened after_item in_operands class space
 
 -- each of these tokens of a text that begins a line is indented so, where so much is open before
--- them, after an item or not
-abbrev pub AreIndented : Layout → List ℕ → Opened → Bool → List Token → Type 0
-AreIndented layout text opened after_item [] = Unit {0}
-AreIndented layout text opened after_item (t ∷ ts) =
-    ((space : List ℕ) → line_to text t.start ≡ blank space → IsIndented layout opened after_item t.class space)
-    × AreIndented layout text (next_opened layout opened (indent (line_to text t.start)) t.class) (ends_item t.class) ts
+-- them, after an item or not, and in operands or not
+abbrev pub AreIndented : Layout → List ℕ → Opened → Bool → Bool → List Token → Type 0
+AreIndented layout text opened after_item in_operands [] = Unit {0}
+AreIndented layout text opened after_item in_operands (t ∷ ts) =
+    ((space : List ℕ) → line_to text t.start ≡ blank space
+    → IsIndented layout opened after_item in_operands t.class space)
+    × AreIndented layout text (next_opened layout opened (indent (line_to text t.start)) t.class) (ends_item t.class)
+    (not (ends_operands t.class)) ts
 
 -- each token of the text that begins a line is indented so; before the first nothing goes on
 abbrev pub IndentsLines : Layout → List ℕ → Type 0
-IndentsLines layout text = (ts : List Token) → IsTokenList text ts finished → AreIndented layout text [] true ts
+IndentsLines layout text = (ts : List Token) → IsTokenList text ts finished → AreIndented layout text [] true false ts

@@ -75,8 +75,9 @@ pub fn formatted_lines()
 /// template list is as deep as what it closes: a bracket or a template list as the line where it
 /// opens, a block as the lines around it. A line that begins with any other token is one level deeper
 /// than what it is in, or in a block and outside of all maybe two, where no `;`, `{` or `}` is before
-/// it. Nothing is said in a bracket or a template list whose line begins inside a block comment.
-/// Names and attributes are not checked: a module by its syntax is enough.
+/// it, or in operands maybe more, where no bracket that opens, `,`, `;`, `{` or `}` is before it.
+/// Nothing is said in a bracket or a template list whose line begins inside a block comment. Names and
+/// attributes are not checked: a module by its syntax is enough.
 pub fn formatted_indents()
     ensures { (layout : Layout) (source : List ℕ) (ts : List Token)
         (read : IsTokenList source ts finished) (derived : IsSentence written unit ts) →

@@ -1,15 +1,21 @@
 -- Failures of files and of sources.
-use Rattle.std.proofs.Common.{◌≡◌, ◌⊎◌, inl, inr, refl, sym, ap, subst, ℕ, true, false, List, chars}
+use Rattle.std.proofs.Common.{◌≡◌, ◌⊎◌, inl, inr, refl, sym, ap, subst, ℕ, true, false, List, ◌++◌, chars, codes, string_bytes}
 use Rattle.std.specs.Str.{is_utf8}
 use Rattle.wgsl_error.specs.declared.Error.{Error}
 use Rattle.wgsl_error.specs.declared.ParseError.TheVariants as parse
 use Rattle.wgsl_error.specs.Kinds.{error_at}
+use Rattle.wgsl_error.specs.declared.ErrorKind.TheVariants as kinds
+use Rattle.wgsl_error.specs.Places.{message_in_file}
+use Rattle.wgsl_error.specs.Printing.{print_message}
 use Rattle.wgsl_error.specs.View.{fault_view}
+use Rattle.wgsl_span.specs.View.{span_view}
+use Rattle.wgsl_format.specs.Deeper.{IsDeeperInFile}
 use Rattle.wgsl_files.specs.Reading.{IsErrorFor}
+use Rattle.wgsl_files.specs.declared.status.Status.TheVariants as status
 use Rattle.wgsl_files.specs.declared.store.StoreError.{StoreError}
 use Rattle.wgsl_files.specs.declared.store.StoreError.TheVariants as store
 use Rattle.wgsl_model.specs.Program.{IsFaultOf}
-use Rattle.wgsl_minify_files.specs.Failures.{IsFailed, IsFailedFor, IsNotUtf8, IsRefused, IsRefusedFor, Refuses, Refuses.named, Refuses.undecoded}
+use Rattle.wgsl_minify_files.specs.Failures.{IsFailed, IsFailedFor, IsNotUtf8, IsRefusal, IsRefusedFor, Refuses, Refuses.named, Refuses.undecoded, Refuses.too_deep, IsTooDeep, IsToldDeeper, levels}
 use Rattle.wgsl_minify_files.specs.declared.failure.Failure.{Failure}
 use Rattle.wgsl_minify_files.specs.declared.failure.Failure.TheVariants.{Refused, Failed, OutOfMemory}
 
@@ -18,24 +24,47 @@ pub failed_for : (reason : Type 0) (path : List ℕ) (e : StoreError) (failure :
     → (e ≡ store.OutOfMemory → failure ≡ OutOfMemory) → IsFailed path failure → IsFailedFor reason path failure
 failed_for reason path store.OutOfMemory failure why memory failed =
     subst (IsFailedFor reason path) (sym (memory refl)) tt
-failed_for reason path (store.Failed e) (Refused message) why memory failed = failed
+failed_for reason path (store.Failed e) (Refused refusal) why memory failed = failed
 failed_for reason path (store.Failed e) (Failed message) why memory failed = (why, failed)
 failed_for reason path (store.Failed e) OutOfMemory why memory failed = tt
 
+-- a source that nests too deep is refused for an error, too
+pub deep_refused : (name source : List ℕ) (e : Error) (failure : Failure)
+    → IsRefusal (IsTooDeep name source) failure → IsRefusal (IsRefusedFor name source e) failure
+deep_refused name source e OutOfMemory told = told
+deep_refused name source e (Failed message) told = told
+deep_refused name source e (Refused refusal) told = inl told
+
+-- so is one that has an error
+pub error_refused : (name source : List ℕ) (e : Error) (message : List ℕ)
+    → message ≡ message_in_file name (print_message e.error) source (span_view e.span) ++ codes "\n"
+    → ¬ (e.error ≡ kinds.OutOfMemory) → IsRefusedFor name source e status.Refused message
+error_refused name source e message told other = inr (refl, told, other)
+
+-- its message ends with a line break
+pub deep_told : (name source told message : List ℕ) → IsDeeperInFile levels name source told
+    → message ≡ told ++ codes "\n" → IsToldDeeper name source message
+deep_told name source told message deep ends = (told, deep, ends)
+
 -- bytes that are no text are refused
 pub refused_undecoded : (name bytes : List ℕ) (failure : Failure) → is_utf8 bytes ≡ false
-    → IsNotUtf8 name failure → IsRefused name bytes failure
+    → IsRefusal (IsNotUtf8 name) failure → IsRefusal (Refuses name bytes) failure
 refused_undecoded name bytes OutOfMemory invalid told = told
 refused_undecoded name bytes (Failed message) invalid told = told
-refused_undecoded name bytes (Refused message) invalid told = subst (Refuses name bytes) (sym told) (undecoded invalid)
+refused_undecoded name bytes (Refused refusal) invalid (code, told) =
+    subst (λ s. Refuses name bytes s (string_bytes refusal.message)) (sym code)
+    (subst (Refuses name bytes status.Refused) (sym told) (undecoded invalid))
 
--- a source is refused for the error that is named of it
+-- a source is refused for the error that is named of it, or since it nests too deep
 pub refused_named : (name bytes : List ℕ) (e : Error) (failure : Failure) → is_utf8 bytes ≡ true
     → (e ≡ error_at parse.OutOfMemory 0 0) ⊎ IsFaultOf (chars bytes) (fault_view e)
-    → IsRefusedFor name (chars bytes) e failure → IsRefused name bytes failure
+    → IsRefusal (IsRefusedFor name (chars bytes) e) failure → IsRefusal (Refuses name bytes) failure
 refused_named name bytes e OutOfMemory valid fault told = told
 refused_named name bytes e (Failed message) valid fault told = told
-refused_named name bytes e (Refused message) valid (inl memory) (told, other) =
+refused_named name bytes e (Refused refusal) valid fault (inl (code, told)) =
+    subst (λ s. Refuses name bytes s (string_bytes refusal.message)) (sym code) (too_deep _ valid told)
+refused_named name bytes e (Refused refusal) valid (inl memory) (inr (code, told, other)) =
     absurd (other (ap (λ (x : Error). x.error) memory))
-refused_named name bytes e (Refused message) valid (inr fault) (told, other) = subst (Refuses name bytes)
-    (sym told) (named (fault_view e) valid fault)
+refused_named name bytes e (Refused refusal) valid (inr fault) (inr (code, told, other)) =
+    subst (λ s. Refuses name bytes s (string_bytes refusal.message)) (sym code)
+    (subst (Refuses name bytes status.Refused) (sym told) (named (fault_view e) valid fault))

@@ -8,7 +8,7 @@ use Rattle.wgsl_format.specs.Ends.{IsInput}
 use Rattle.wgsl_minify.specs.Modules.{IsMinified}
 use Rattle.wgsl_name_map.specs.Maps.{map_form}
 use Rattle.wgsl_program.specs.World.{World, Says}
-use Rattle.wgsl_minify_files.specs.Failures.{message_of, code_of_failure, IsFailed, IsFailedFor, IsRefused}
+use Rattle.wgsl_minify_files.specs.Failures.{message_of, code_of_failure, IsFailed, IsFailedFor, IsRefusal, Refuses}
 use Rattle.wgsl_minify_files.specs.Options.{Options}
 use Rattle.wgsl_minify_files.specs.declared.failure.Failure.{Failure}
 
@@ -61,7 +61,7 @@ IsUnwritten path files failure = IsFailedFor (files.known ≡ false) path failur
 pub data Stops (options : Options) (files : Files) (left rest : Option (List ℕ)) (failure : Failure) : Type 0 where
   unread : IsUnread options.input files failure → Stops options files left rest failure
   refused : (source : List ℕ) → IsSource options.input files left rest source
-      → IsRefused (name_of options.input) source failure → Stops options files left rest failure
+      → IsRefusal (Refuses (name_of options.input) source) failure → Stops options files left rest failure
   unsaved : (path : List ℕ) → options.map ≡ Some path → IsUnwritten path files failure
       → Stops options files left rest failure
 

@@ -9,7 +9,7 @@ ghost use Rattle.wgsl_minify_files.specs.declared.failure.Failure.TheVariants as
 use std::alloc::{AllocError, Global};
 use std::io;
 use std::io::Write;
-use wgsl_files::{Status, StoreError};
+use wgsl_files::{Refusal, Status, StoreError};
 use wgsl_program::say;
 
 /// What is reported where an allocation failed.
@@ -18,8 +18,8 @@ pub const MEMORY: &str = "wgslmin: error: out of memory\n";
 /// The reason why a run writes no minified text, with its message.
 #[derive(Debug, Drop)]
 pub enum Failure {
-    /// The source is not a module, or not UTF-8.
-    Refused(String),
+    /// The source is not a module, or not UTF-8, or nests too deep.
+    Refused(Refusal),
     /// A file could not be read or written.
     Failed(String),
     OutOfMemory,
@@ -71,7 +71,7 @@ impl Failure {
             (E.contents errors.old) (E.contents errors.new) result }
     {
         match self {
-            Failure::Refused(message) => say(errors, message.as_str(), Status::Refused),
+            Failure::Refused(refusal) => say(errors, refusal.message.as_str(), refusal.status),
             Failure::Failed(message) => say(errors, message.as_str(), Status::Failed),
             Failure::OutOfMemory => say(errors, MEMORY, Status::OutOfMemory),
         }

@@ -88,6 +88,7 @@ pub use Rattle.wgsl_parser.specs.Iterators
 pub use Rattle.wgsl_parser.specs.Spans as TemplateListSpans
 pub use Rattle.wgsl_read_dialect.specs.Recognized
 pub use Rattle.wgsl_read_nesting.specs.Nesting
+pub use Rattle.wgsl_read_nesting.specs.Deeper
 pub use Rattle.wgsl_lexer.specs.Given
 pub use Rattle.wgsl_lexer.specs.Left
 pub use Rattle.wgsl_lexer.specs.InOrder
@@ -136,6 +137,17 @@ pub use Rattle.wgsl_model_names.specs.Names
 pub use Rattle.wgsl_model_names.specs.Renamed as RenamedTrees
 pub use Rattle.wgsl_model_names.specs.RenamedTokens
 pub use Rattle.wgsl_model_names.specs.Renaming as Renamings
+-- the names of a text with their places
+pub use Rattle.wgsl_model_places.specs.Roles as NameRoles
+pub use Rattle.wgsl_model_places.specs.Items as NameItems
+pub use Rattle.wgsl_model_places.specs.Signs as NameSigns
+pub use Rattle.wgsl_model_places.specs.Steps as NameSteps
+pub use Rattle.wgsl_model_places.specs.Places as NamePlaces
+pub use Rattle.wgsl_lex_names.specs.View as NameView
+pub use Rattle.wgsl_resolve_names.specs.Linked as NameReferents
+pub use Rattle.wgsl_resolve_names.specs.Found as FoundNames
+pub use Rattle.wgsl_read_names.specs.Texts as NamesOfTexts
+pub use Rattle.wgsl_references.specs.References
 -- modules minified
 pub use Rattle.wgsl_model_short.specs.Shortened
 pub use Rattle.wgsl_model_short.specs.Shortest

@@ -53,7 +53,16 @@ pub mod parser {
         recognize_template_list,
     };
     pub use wgsl_read_dialect::recognize_str;
-    pub use wgsl_read_nesting::nesting;
+    pub use wgsl_read_nesting::{first_deeper, nesting};
+}
+
+/// The names of modules with their places, what each is, and what uses refer to.
+pub mod names {
+    pub use wgsl_read_names::{
+        Branch, Declared, Entry, Event, Name, Named, Names, Referent, Role, events, events_within,
+        names, names_within,
+    };
+    pub use wgsl_references::references;
 }
 
 /// Laying modules out for people: comments and the author's line breaks stay.

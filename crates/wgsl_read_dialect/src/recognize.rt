@@ -22,6 +22,9 @@ use wgsl_error::Error;
 use wgsl_lexer::TextTokens;
 use wgsl_read_cursor::{Expected, TokenSource};
 
+/// How many rules of the grammar at most are inside one another for each level.
+const RULES: usize = 8;
+
 /// Whether the tokens of a source are a module of a dialect.
 #[tactic(auto, using(crate::proofs::Weights::rule_settled, crate::proofs::Recognized::unit_is))]
 fn recognize_unit(alloc: Global, dialect: Dialect, source: TokenSource) -> Result<(), Error>
@@ -57,9 +60,10 @@ pub fn recognize_str(alloc: Global, source: &str) -> Result<(), Error>
 /// Checks whether a text with these tokens is a module, as `parse_str` reads them but without its
 /// checks: a reserved word is a name, and attributes, `var` templates and severities may say
 /// anything. Otherwise the error is the first token that can't be where it is; else the text that
-/// is not a token; else that the text ends too early. No tree is made. Where rules of the grammar
-/// nest deeper than a number of levels, the error is of the kind `OutOfMemory`: the stack grows
-/// with each.
+/// is not a token; else that the text ends too early. No tree is made. Where brackets, blocks and
+/// template lists nest deeper than a number of levels, the error is of the kind `OutOfMemory`: the
+/// stack grows with the rules of the grammar that are inside one another, which are counted, so a
+/// few more levels may be accepted.
 pub fn check_syntax(
     alloc: Global,
     source: &str,
@@ -73,6 +77,7 @@ pub fn check_syntax(
         IsOutOfMemory e ⊎ IsSyntaxFaultOf (chars source.now) (fault_view e)) }
     ensures placed { IfErr result (λ e. StandsWithin e.span (length source.now)) }
 {
-    let tokens = TokenSource::of_tokens(alloc, source, tokens, depth);
+    let rules = depth.saturating_add(1).saturating_mul(RULES);
+    let tokens = TokenSource::of_tokens(alloc, source, tokens, rules);
     recognize_unit(alloc, Dialect::Parsed, tokens)
 }

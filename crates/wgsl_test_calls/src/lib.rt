@@ -5,9 +5,11 @@
 mod faults;
 mod names;
 mod parts;
+mod places;
 mod texts;
 
 pub use faults::{first_fault, is_module, snippet_of};
 pub use names::function_names;
 pub use parts::{alias_text, expression_of, expression_of_tokens, nests_within};
+pub use places::{declared_names, uses_of};
 pub use texts::{formatted, laid_out, laid_out_with_tabs};

@@ -1,6 +1,6 @@
-//! Parts of modules: how deep a text nests, an expression by itself, a tree that is made by hand.
+//! Parts of modules: how deep a text nests and where, an expression by itself, a tree that is made by hand.
 
-ghost use Rattle.std.specs.Prelude.{◌≡◌, ◌↔◌, ◌≤◌, ◌++◌, List, IfOk, IsTrue, chars, codes, string_bytes};
+ghost use Rattle.std.specs.Prelude.{◌≡◌, ◌↔◌, ◌≤◌, ◌++◌, List, IfOk, IsTrue, chars, codes, option_map, string_bytes};
 ghost use Rattle.wgsl_parse.specs.Tokens as grammar;
 ghost use Rattle.wgsl_parse.specs.Endings.{Ending};
 ghost use Rattle.wgsl_parse.specs.TokenList.{IsTokenList};
@@ -10,12 +10,15 @@ ghost use Rattle.wgsl_parse.specs.SourceTrees.{IsTreeOf};
 ghost use Rattle.wgsl_parse.specs.Sources.{IsRead};
 ghost use Rattle.wgsl_parse.specs.Iterators.{Derived, IsParsed};
 ghost use Rattle.wgsl_parse.specs.ExpressionView.{expression_view};
+ghost use Rattle.wgsl_parse.specs.SpanView.{span_view};
 ghost use Rattle.wgsl_parse.specs.Nesting.{nesting};
+ghost use Rattle.wgsl_parse.specs.Deeper.{IsFirstDeeper};
 
 use std::alloc::{AllocError, Global};
 use wgsl_parse::error::Error;
 use wgsl_parse::lexer::TokenIterator;
-use wgsl_parse::parser::{ExpressionParser, FromSource, nesting};
+use wgsl_parse::parser::{ExpressionParser, FromSource, first_deeper, nesting};
+use wgsl_parse::span::Span;
 use wgsl_parse::syntax::{Expression, Ident, TypeAlias, TypeExpression};
 
 /// Returns whether a text nests no deeper than a limit, so that a stack of a known size bears it.
@@ -24,6 +27,15 @@ pub fn nests_within(alloc: Global, source: &str, limit: usize) -> Result<bool, E
         × IsTokenList (chars source.now) ts e × (IsTrue fits ↔ (nesting ts ≤ limit))) }
 {
     Ok(nesting(alloc, source)? <= limit)
+}
+
+/// Returns where a text first nests deeper than a limit, to report it.
+pub fn too_deep_at(alloc: Global, source: &str, limit: usize) -> Result<Option<Span>, Error>
+    ensures { IfOk result (λ found. (ts : List grammar.Token) × (e : Ending)
+        × IsTokenList (chars source.now) ts e
+        × IsFirstDeeper limit ts (option_map span_view found)) }
+{
+    first_deeper(alloc, source, limit)
 }
 
 /// Reads the expression that a text is.

@@ -3,7 +3,7 @@
 ghost use Rattle.std.specs.Prelude.{ℕ, List};
 
 use std::alloc::Global;
-use wgsl_files::{Format, FormatError};
+use wgsl_files::{Format, FormatError, Refusal, Status};
 
 /// The format of texts that end with an LF.
 #[derive(Clone, Copy)]
@@ -12,12 +12,15 @@ pub struct Ended;
 impl Format for Ended {
     ghost becomes = { λ _ _ _. Unit {0} };
 
-    ghost refuses = { λ _ _ _. Unit {0} };
+    ghost refuses = { λ _ _ _ _. Unit {0} };
 
     fn format(&self, alloc: Global, text: &[u8]) -> Result<Vec<u8>, FormatError> {
         if text.contains(&b'!') {
             return match String::from_str(alloc, "1:1: error: a `!`") {
-                Ok(message) => Err(FormatError::Refused(message)),
+                Ok(message) => Err(FormatError::Refused(Refusal {
+                    status: Status::Refused,
+                    message,
+                })),
                 Err(_) => Err(FormatError::OutOfMemory),
             };
         }

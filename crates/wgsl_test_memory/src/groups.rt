@@ -6,7 +6,7 @@ use crate::{tokens, trees, values};
 
 #[test]
 fn modules(rt: HostRuntime) {
-    check_count(&rt, trees::make_modules, 239);
+    check_count(&rt, trees::make_modules, 240);
 }
 
 #[test]
@@ -36,22 +36,22 @@ fn sources(rt: HostRuntime) {
 
 #[test]
 fn texts(rt: HostRuntime) {
-    check_count(&rt, trees::make_texts, 83);
+    check_count(&rt, trees::make_texts, 101);
 }
 
 #[test]
 fn lists(rt: HostRuntime) {
-    check_count(&rt, tokens::make_lists, 72);
+    check_count(&rt, tokens::make_lists, 76);
 }
 
 #[test]
 fn tokens(rt: HostRuntime) {
-    check_count(&rt, tokens::make_tokens, 82);
+    check_count(&rt, tokens::make_tokens, 83);
 }
 
 #[test]
 fn lexers(rt: HostRuntime) {
-    check_count(&rt, tokens::make_lexers, 222);
+    check_count(&rt, tokens::make_lexers, 237);
 }
 
 #[test]

@@ -8,6 +8,7 @@ use std::fmt;
 use wgsl_parse::error::Error;
 use wgsl_parse::lexer::Lexer;
 use wgsl_parse::minify::{MinifyOptions, Which, minify, shorten};
+use wgsl_parse::names::names;
 use wgsl_parse::parser::{
     ExpressionParser, GlobalDeclParser, GlobalDirectiveParser, LiteralParser, StatementParser,
     TranslationUnitParser,
@@ -141,12 +142,13 @@ fn read<T: FromSource + fmt::Debug + Drop>(
     let _ = answers.call(call, text, || T::from_str(alloc, text));
 }
 
-/// Writes the text of a module in three ways.
+/// Writes the text of a module in three ways, and finds its names.
 pub fn make_texts(answers: &mut Answers) {
     let (alloc, text) = (answers.alloc, "fn f(a: b) { let c = a; /* d */ f(c); }");
     let _ = answers.call("tidy", text, || tidy(alloc, text));
     let _ = answers.call("shorten", text, || shorten(alloc, text));
     let _ = answers.call("minify", text, || minified(alloc, text));
+    let _ = answers.call("names", text, || count_names(alloc, text));
 }
 
 /// The minified text, in which a name stays.
@@ -156,4 +158,9 @@ fn minified(alloc: Global, text: &str) -> Result<String, Error> {
         keep: &["f"],
     };
     Ok(minify(alloc, text, options)?.text)
+}
+
+/// How many names a module has.
+fn count_names(alloc: Global, text: &str) -> Result<usize, Error> {
+    Ok(names(alloc, text)?.names.len())
 }

@@ -1,6 +1,6 @@
 //! What is seen of a row's text, by how it is read.
 
-use crate::depths::see_depth;
+use crate::depths::{see_deeper, see_depth, see_tidy_depth};
 use crate::discovered::see_lists;
 use crate::facts::{Facts, MADE};
 use crate::faults::see_fault;
@@ -74,6 +74,8 @@ fn see_text(
         "dialect" => see_dialect(text, facts),
         "path" => see_path(text, facts),
         "parse_within" => see_depth(text, argument, facts),
+        "tidy_within" => see_tidy_depth(text, argument, facts),
+        "deeper_in_file" => see_deeper(text, argument, facts),
         "tidy_with" => see_layout(text, argument, facts),
         "shorten" => see_shortest(text, facts),
         "minify" => see_minified(text, argument, facts),

@@ -4,7 +4,7 @@
 use crate::facts::Facts;
 use std::alloc::{AllocError, Global};
 use wgsl_error::ErrorKind;
-use wgsl_lex_templates::is_expression_list;
+use wgsl_lex_templates::{OpenBrackets, is_expression_list};
 use wgsl_lexer::{Lexer, TokenItem};
 
 /// A token with its place, or the fault that ends the tokens, on a line.
@@ -56,7 +56,7 @@ pub fn see_list(text: &str, facts: &mut Facts<'_>) -> Result<(), AllocError> {
             Err(_) => return facts.expect(false, "the text has tokens"),
         }
     }
-    let word = if is_expression_list(&kinds) {
+    let word = if is_expression_list(&kinds, &mut OpenBrackets::new(alloc))? {
         "yes"
     } else {
         "no"

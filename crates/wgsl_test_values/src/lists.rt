@@ -2,7 +2,7 @@
 
 use std::test::Fail;
 use wgsl_error::ParseError;
-use wgsl_lex_templates::is_expression_list;
+use wgsl_lex_templates::{OpenBrackets, is_expression_list};
 use wgsl_lex_token::kind::TokenKind;
 use wgsl_lex_token::token::Token;
 use wgsl_lexer::{Lexer, TokenItem, collect_tokens, lex};
@@ -50,11 +50,13 @@ fn a_copy_of_a_lexer_gives_what_is_left(rt: HostRuntime) -> Result<(), Fail> {
 /// Kinds that no text gives: in a text a template list has an end and something in it, and the `<`
 /// of `a < b > c` opens one.
 #[test]
-fn kinds_that_no_text_gives_are_no_expressions(rt: HostRuntime) {
+fn kinds_that_no_text_gives_are_no_expressions(rt: HostRuntime) -> Result<(), Fail> {
     let name = TokenKind::Ident;
     let (start, end) = (TokenKind::TemplateArgsStart, TokenKind::TemplateArgsEnd);
     let (less, greater) = (TokenKind::SymLessThan, TokenKind::SymGreaterThan);
-    assert!(rt; !is_expression_list(&[name, start, name]));
-    assert!(rt; !is_expression_list(&[name, start, end]));
-    assert!(rt; !is_expression_list(&[name, less, name, greater, name]));
+    let opened = &mut OpenBrackets::new(rt.alloc());
+    assert!(rt; !is_expression_list(&[name, start, name], opened)?);
+    assert!(rt; !is_expression_list(&[name, start, end], opened)?);
+    assert!(rt; !is_expression_list(&[name, less, name, greater, name], opened)?);
+    Ok(())
 }

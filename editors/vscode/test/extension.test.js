@@ -110,9 +110,12 @@ test('a program that is not there is named', async () => {
 });
 
 test('what has no place is shown', async () => {
-  assert.deepEqual(await format(`const a = ${'('.repeat(5000)}1${')'.repeat(5000)};`), []);
-  assert.equal(seen.messages.length, 1);
-  assert.match(seen.messages[0], /^wgsltidy: .*: error: /);
+  const error = 'shader.wgsl: error: out of memory';
+  seen.path = path.join(folder, 'failing');
+  const script = `#!/bin/sh\ncat > /dev/null\necho "${error}" >&2\nexit 5\n`;
+  writeFileSync(seen.path, script, { mode: 0o755 });
+  assert.deepEqual(await format('fn f(){}'), []);
+  assert.deepEqual(seen.messages, [`wgsltidy: ${error}\n`]);
   assert.deepEqual(diagnostics(), []);
 });
 

@@ -1,14 +1,14 @@
 -- How deep a line is that begins with a token, by what is open there.
-use Rattle.std.proofs.Common.{◌≡◌, ℕ, suc, ◌==◌, ◌&&◌, ◌||◌, Bool, true, false, cond, not, refl, sym, ap, subst, ◌∙◌, List, [], ◌∷◌, drop, Option, Some, None}
+use Rattle.std.proofs.Common.{◌≡◌, ℕ, zero, suc, ◌+◌, ◌==◌, ◌&&◌, ◌||◌, Bool, true, false, cond, not, refl, sym, ap, subst, ◌∙◌, List, [], ◌∷◌, drop, Option, Some, None, arith}
 use Rattle.std.proofs.lemmas.Bool.{and_parts, eqb-true, not-true, true≢false}
 use Rattle.grammar.specs.Grammar.{is_among}
 use Rattle.wgsl_model.specs.Tokens.ClassTable.{AbstractFloat, AbstractInt, F16, F32, I32, Ident, KwDiagnostic, KwElse, KwFalse, KwTrue, ReservedWord, SymAnd, SymAttr, SymBang, SymBraceLeft, SymBraceRight, SymBracketLeft, SymBracketRight, SymColon, SymComma, SymMinus, SymMinusMinus, SymParenLeft, SymParenRight, SymPeriod, SymPlusPlus, SymSemicolon, SymStar, SymTilde, TemplateArgsEnd, TemplateArgsStart, U32}
 use Rattle.wgsl_model_tidy.specs.Brackets.{Line}
 use Rattle.wgsl_model_tidy.specs.Layout.{Layout}
-use Rattle.wgsl_model_tidy.specs.Roles.{Role, is_operator, name, unsuffixed, number, word, else_word, comma, semicolon, colon, period, at, step, binary, minus, ampersand, prefix, opening, closing, template_start, template_end, block_start, block_end, attribute, is, ends_operand, opens, opens_bracket, closes as role_closes, sign_role, role_of}
-use Rattle.wgsl_model_tidy.specs.Open.{Open, block, members, arguments, bracket, Opened as OpenedState, Style, LayoutState, in_brackets, inner_depth, outer_depth, begins, depth_within, depth_of, role_in, block_opened, opened_after_token}
+use Rattle.wgsl_model_tidy.specs.Roles.{Role, is_operator, is_assignment, name, unsuffixed, number, word, else_word, comma, semicolon, colon, period, at, step, binary, assign, minus, ampersand, prefix, opening, closing, template_start, template_end, block_start, block_end, attribute, is, ends_operand, opens, opens_bracket, closes as role_closes, sign_role, role_of}
+use Rattle.wgsl_model_tidy.specs.Open.{Open, block, members, arguments, bracket, Opened as OpenedState, Operands, parted, within, Style, LayoutState, in_brackets, are_parted, operand_levels, inner_depth, outer_depth, begins, depth_within, depth_of, role_in, block_opened, opened_after_token}
 use Rattle.wgsl_model_tidy.specs.LaidOut.{indentation}
-use Rattle.wgsl_laws.specs.Indents.{indent, deeper, opens as token_opens, closes as token_closes, Opened, in_block, outer_indent, inner_indent, next_opened, IsSpace, IsIndented, closing as closes_there, inside, goes_on}
+use Rattle.wgsl_laws.specs.Indents.{indent, deeper, opens as token_opens, closes as token_closes, Opened, in_block, outer_indent, inner_indent, next_opened, IsSpace, IsIndented, closing as closes_there, inside, goes_on, between_operands, levels_deeper}
 use Rattle.wgsl_laws.proofs.Indents.Through.{InLine, shown, hidden}
 
 -- ---- indents
@@ -111,7 +111,8 @@ module _ (P : Role → Bool) (plain : (right : Role) → is_plain right ≡ true
       (by_if P (is_among c (SymMinus ∷ SymAnd ∷ SymStar ∷ [])) (sign_role b c) _ (λ e. sign_by b c)
       (plain_if (is_among c (SymBang ∷ SymTilde ∷ [])) prefix _ refl
       (plain_if (is_among c (SymPlusPlus ∷ SymMinusMinus ∷ [])) step _ refl
-      (plain_if (is_operator c) binary _ refl (plain word refl)))))))))))))))))))
+      (plain_if (is_operator c) binary _ refl
+      (plain_if (is_assignment c) assign word refl (plain word refl))))))))))))))))))))
 
 no_class : (b : Bool) → b ≡ false → {x : Bool} → b ≡ true → x ≡ true
 no_class b e h = absurd (true≢false (sym h ∙ e))
@@ -185,17 +186,42 @@ no_item : (after_item : Bool) (xs : Opened) (state : LayoutState) → ItemBegins
 no_item true xs state h b e = absurd (true≢false (sym (h refl b) ∙ e))
 no_item false xs state h b e = refl
 
+-- so many levels deeper
+levels_at : (layout : Layout) (n depth : ℕ) (x : Option (List ℕ)) → IsAt layout depth x
+    → IsAt layout (n + depth) (levels_deeper layout n x)
+levels_at layout zero depth x h =
+    let none : depth ≡ 0 + depth = omega arith in subst (λ n. IsAt layout n x) none h
+levels_at layout (suc n) depth x h =
+    let one : suc (n + depth) ≡ suc n + depth = omega arith in
+    subst (λ m. IsAt layout m (levels_deeper layout (suc n) x)) one
+    (deeper_at layout (n + depth) (levels_deeper layout n x) (levels_at layout n depth x h))
+
+-- operands go on
+abbrev pub go_on : List Operands → Bool
+go_on (parted n more ∷ outer) = true
+go_on operands = false
+
+-- lines begin before operators only there
+parted_go_on : (operands : List Operands) → are_parted operands ≡ true → go_on operands ≡ true
+parted_go_on [] h = absurd (true≢false (sym h))
+parted_go_on (within ∷ outer) h = absurd (true≢false (sym h))
+parted_go_on (parted n more ∷ outer) h = refl
+
+-- where they go on, what is before is in operands
+abbrev pub OperandsBegin : Bool → LayoutState → Type 0
+OperandsBegin in_operands state = go_on state.operands ≡ true → in_operands ≡ true
+
 module _ (layout : Layout) (state : LayoutState) (class : ℕ) (xs : Opened) (a : Agree layout state.opened xs)
-    (item : Bool) (i : ItemBegins item xs state) where
+    (item : Bool) (i : ItemBegins item xs state) (operands : Bool) (o : OperandsBegin operands state) where
   indented_inside : (right : Role) → token_closes class ≡ false
-      → IsIndented layout xs item class (indentation layout (depth_within state right))
-  indented_inside right c = go (in_brackets state.opened) (begins state || is right block_start) refl refl
+      → IsIndented layout xs item operands class (indentation layout (depth_within state right))
+  indented_inside right c = parted_or (are_parted state.operands) refl
     where
       inner : IsAt layout (inner_depth state.opened) (inner_indent layout xs)
       inner = inner_at layout state.opened xs a
 
       go : (b d : Bool) → in_brackets state.opened ≡ b → (begins state || is right block_start) ≡ d
-          → IsIndented layout xs item class (indentation layout
+          → IsIndented layout xs item operands class (indentation layout
           (cond (b || d) (inner_depth state.opened) (suc (inner_depth state.opened))))
       go true d e f = inside c (space_at layout (inner_depth state.opened) (inner_indent layout xs) inner)
       go false true e f = inside c (space_at layout (inner_depth state.opened) (inner_indent layout xs) inner)
@@ -205,24 +231,37 @@ module _ (layout : Layout) (state : LayoutState) (class : ℕ) (xs : Opened) (a 
           (space_at layout (suc (inner_depth state.opened)) (deeper layout (inner_indent layout xs))
           (deeper_at layout (inner_depth state.opened) (inner_indent layout xs) inner))
 
+      more : ℕ
+      more = operand_levels state.operands
+
+      parted_or : (b : Bool) → are_parted state.operands ≡ b
+          → IsIndented layout xs item operands class (indentation layout
+          (cond b (more + inner_depth state.opened)
+          (cond (in_brackets state.opened || (begins state || is right block_start))
+          (inner_depth state.opened) (suc (inner_depth state.opened)))))
+      parted_or true e = between_operands more c (o (parted_go_on state.operands e))
+          (space_at layout (more + inner_depth state.opened) (levels_deeper layout more (inner_indent layout xs))
+          (levels_at layout more (inner_depth state.opened) (inner_indent layout xs) inner))
+      parted_or false e = go (in_brackets state.opened) (begins state || is right block_start) refl refl
+
   indented_by : (right : Role) → Does class right
-      → IsIndented layout xs item class (indentation layout (depth_of state right))
+      → IsIndented layout xs item operands class (indentation layout (depth_of state right))
   indented_by _ (opens_block e c) = indented_inside block_start c
   indented_by _ (opens_list right o e p c) =
-      subst (λ d. IsIndented layout xs item class (indentation layout d))
+      subst (λ d. IsIndented layout xs item operands class (indentation layout d))
       (sym (depth_inside state right (list_closes_none right o))) (indented_inside right c)
   indented_by _ (closes_any right h e o c) =
-      subst (λ d. IsIndented layout xs item class (indentation layout d)) (sym (depth_closing state right h))
+      subst (λ d. IsIndented layout xs item operands class (indentation layout d)) (sym (depth_closing state right h))
       (closes_there c (space_at layout (outer_depth state.opened) (outer_indent xs)
       (outer_at layout state.opened xs a)))
   indented_by _ (does_neither right h e o c) =
       let parts = and_parts (not (role_closes right)) (not (opens right)) h in
-      subst (λ d. IsIndented layout xs item class (indentation layout d))
+      subst (λ d. IsIndented layout xs item operands class (indentation layout d))
       (sym (depth_inside state right (not-true (role_closes right) parts.0))) (indented_inside right c)
 
   -- the line of a token is as deep as it is to be
   pub indented : (operand : Bool)
-      → IsIndented layout xs item class (indentation layout (depth_of state (role_in state class operand)))
+      → IsIndented layout xs item operands class (indentation layout (depth_of state (role_in state class operand)))
   indented operand = indented_by (role_in state class operand) (does state class operand)
 
 -- ---- what is open after a token

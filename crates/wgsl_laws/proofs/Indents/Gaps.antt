@@ -4,9 +4,8 @@ use Rattle.wgsl_model.specs.Tokens.Trivia.{Place, outside}
 use Rattle.wgsl_model_tidy.specs.Lines.{place_of}
 use Rattle.wgsl_model_tidy.specs.Brackets.{Line, blank, begun, line_of}
 use Rattle.wgsl_model_tidy.specs.Roles.{Role, beginning, is}
-use Rattle.wgsl_model_tidy.specs.Joints.{Joint, line, nothing, space, nothing_or_line, space_or_line, joint}
+use Rattle.wgsl_model_tidy.specs.Joints.{Joint, line, nothing, space, nothing_or_line, space_or_line}
 use Rattle.wgsl_model_tidy.specs.Layout.{Layout}
-use Rattle.wgsl_model_tidy.specs.Open.{Enclosing}
 use Rattle.wgsl_model_tidy.specs.LaidOut.{Gap, Gap.closed, Gap.blank as one_blank, broken, Last, token, line_comment, block_comment, leading_comment, open_comment, Spot, kept_gap, joint_gap, after_comment, after_leading, token_gap, comment_gap, gap_text, indentation, depth_after}
 use Rattle.wgsl_theory_tidy.proofs.Kept.NeatTexts.{CanBreak}
 use Rattle.wgsl_laws.specs.Indents.{Opened, indent}
@@ -43,17 +42,17 @@ gapped_if : (break : Gap) (last : Last) (b : Bool) (x y : Gap) → Gapped break 
 gapped_if break last true x y h k = h
 gapped_if break last false x y h k = k
 
-pub token_gapped : (inside : Enclosing) (last : Last) (left right : Role) (n : ℕ) (break : Gap)
-    → Gapped break last (token_gap inside last left right n break)
-token_gapped inside token left right n break = gapped_if break token (is left beginning) closed _
-    (no_gap tt) (joint_gapped break token tt (joint inside left right) n)
-token_gapped inside line_comment left right n break = break_gap
-token_gapped inside block_comment left right n break = joint_gapped break block_comment tt
-    (after_comment (joint inside left right) right) n
-token_gapped inside leading_comment left right n break = joint_gapped break leading_comment tt
-    (after_leading (joint inside left right) right) n
-token_gapped inside open_comment left right n break = joint_gapped break open_comment tt
-    (after_comment (joint inside left right) right) n
+pub token_gapped : (joint : Joint) (last : Last) (left right : Role) (n : ℕ) (break : Gap)
+    → Gapped break last (token_gap joint last left right n break)
+token_gapped joint token left right n break = gapped_if break token (is left beginning) closed _
+    (no_gap tt) (joint_gapped break token tt joint n)
+token_gapped joint line_comment left right n break = break_gap
+token_gapped joint block_comment left right n break = joint_gapped break block_comment tt
+    (after_comment joint right) n
+token_gapped joint leading_comment left right n break = joint_gapped break leading_comment tt
+    (after_leading joint right) n
+token_gapped joint open_comment left right n break = joint_gapped break open_comment tt
+    (after_comment joint right) n
 
 pub comment_gapped : (class : ℕ) (last : Last) (left : Role) (own : Bool) (n : ℕ) (break : Gap)
     → Gapped break last (comment_gap class last left own n break)
@@ -70,9 +69,9 @@ comment_gapped class open_comment left own n break = kept_gapped break open_comm
 abbrev pub ClosedAtStart : Last → Role → Gap → Type 0
 ClosedAtStart last left gap = last ≡ token → is left beginning ≡ true → gap ≡ closed
 
-pub token_at_start : (inside : Enclosing) (last : Last) (left right : Role) (n : ℕ) (break : Gap)
-    → ClosedAtStart last left (token_gap inside last left right n break)
-token_at_start inside last left right n break e h = rw (e, h) refl
+pub token_at_start : (joint : Joint) (last : Last) (left right : Role) (n : ℕ) (break : Gap)
+    → ClosedAtStart last left (token_gap joint last left right n break)
+token_at_start joint last left right n break e h = rw (e, h) refl
 
 pub comment_at_start : (class : ℕ) (last : Last) (left : Role) (own : Bool) (n : ℕ) (break : Gap)
     → ClosedAtStart last left (comment_gap class last left own n break)

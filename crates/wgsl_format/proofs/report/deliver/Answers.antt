@@ -18,6 +18,11 @@ pub returns-in-NotUtf8-clause-sent : goal.returns-in-NotUtf8-clause-sent
 returns-in-NotUtf8-clause-sent g c = rw c.in-NotUtf8.is
     (goes_to_errors _ _ _ _ _ _ _ c.tell-in-NotUtf8.ensures.1 c.tell-in-NotUtf8.ensures.2)
 
+pub returns-in-TooDeep-clause-sent : goal.returns-in-TooDeep-clause-sent
+returns-in-TooDeep-clause-sent g c =
+    rw (c.in-TooDeep.is, ← c.as_bytes-in-TooDeep.ensures.value)
+    (goes_to_errors _ _ _ _ _ _ _ c.tell-in-TooDeep.ensures.1 c.tell-in-TooDeep.ensures.2)
+
 pub returns-in-OutOfMemory-clause-sent : goal.returns-in-OutOfMemory-clause-sent
 returns-in-OutOfMemory-clause-sent g c =
     let told = c.refuse_memory.ensures in

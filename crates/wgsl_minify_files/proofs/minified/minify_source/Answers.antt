@@ -6,14 +6,14 @@ use Rattle.std.specs.Str.{is_utf8}
 use Rattle.wgsl_minify.specs.Modules.{IsMinified}
 use Rattle.wgsl_minify_names.specs.View.{texts, which_view}
 use Rattle.wgsl_tree_renamed.specs.NewNames.{pairs}
-use Rattle.wgsl_minify_files.specs.Failures.{IsRefused}
+use Rattle.wgsl_minify_files.specs.Failures.{IsRefusal, Refuses}
 use Rattle.wgsl_minify_files.proofs.Failures.{refused_named, refused_undecoded}
 use Rattle.wgsl_minify_files.proofs.minified.minify_source.Goals as goal
 
 pub returns-in_default-clause-refused : goal.returns-in_default-clause-refused
 returns-in_default-clause-refused c =
     let bytes = c.args.source.now in
-    subst (λ (name : List ℕ). IsRefused name bytes c.not_utf8.result) c.name_of-name.ensures
+    subst (λ (name : List ℕ). IsRefusal (Refuses name bytes) c.not_utf8.result) c.name_of-name.ensures
     (refused_undecoded c.name_of-name.result.now bytes c.not_utf8.result (false_from_ne_true (is_utf8 bytes)
     (λ valid. c.in_default.ensures.cases.0 (IsUtf8-from_is_utf8 bytes valid))) c.not_utf8.ensures)
 
@@ -34,6 +34,6 @@ returns-in-Ok-minify_within-clause-minified c =
 pub returns-in-Err-clause-refused : goal.returns-in-Err-clause-refused
 returns-in-Err-clause-refused c =
     let source = c.in-Ok.ensures.cases in
-    subst (λ (name : List ℕ). IsRefused name c.args.source.now c.refusal.result) c.name_of-name.ensures
+    subst (λ (name : List ℕ). IsRefusal (Refuses name c.args.source.now) c.refusal.result) c.name_of-name.ensures
     (refused_named c.name_of-name.result.now c.args.source.now c.in-Err.error c.refusal.result
     (is_utf8-from_IsUtf8 _ source.1) (rw source.0 at c.in-Err.ensures.refused) (rw source.0 at c.refusal.ensures))

@@ -1,0 +1,6 @@
+use Rattle.std.proofs.Common.{rules, chars}
+use Rattle.wgsl_format_files.proofs.Refusals.{error_refused}
+use Rattle.wgsl_format_files.proofs.formatter.refusal.Goals as goal
+
+pub returns-in-Ok : goal.returns-in-Ok
+returns-in-Ok c = error_refused c.args.error (chars c.args.source.now) _ (search rules) (search rules)
