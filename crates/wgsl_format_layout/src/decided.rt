@@ -252,7 +252,11 @@ impl Output {
         }
         let limit = self.state.operands.parted_at();
         has_several(tokens, place)
-            && !self.fits(tokens, place + 1, part_end(tokens, limit, after(tokens, place)))
+            && !self.fits(
+                tokens,
+                place + 1,
+                part_end(tokens, limit, after(tokens, place)),
+            )
     }
 
     /// How a bracket is written that a token at a place opens, in a line of this depth.
