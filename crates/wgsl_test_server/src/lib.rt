@@ -1,0 +1,5 @@
+//! Tests of documents with their positions.
+#![tactic(auto)]
+
+#[cfg(test)]
+mod documents;
