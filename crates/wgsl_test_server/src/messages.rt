@@ -12,7 +12,7 @@ use wgsl_server_protocol::{
 fn frames(rt: HostRuntime) -> Result<(), Fail> {
     let alloc = rt.alloc();
     let all = framed(alloc, b"{\"a\":1}")?;
-    assert!(rt; all.as_slice() == b"Content-Length: 7\r\n\r\n{\"a\":1}");
+    assert!(rt; all.as_slice() == b"Content-Length: 7\r\n\r\n{\"a\":1}".as_slice());
 
     // The bytes that came, and what is at the front where a message has at most 20 bytes.
     let rows: [(&[u8], Front); 9] = [
@@ -42,7 +42,7 @@ fn frames(rt: HostRuntime) -> Result<(), Fail> {
 fn next_of(reader: &mut FrameReader, alloc: Global, piece: &[u8]) -> Result<&'static str, Fail> {
     reader.feed(piece)?;
     Ok(match reader.read(alloc, 4)? {
-        Some(Frame::Message(body)) if body.as_slice() == b"[1]" => "[1]",
+        Some(Frame::Message(body)) if body.as_slice() == b"[1]".as_slice() => "[1]",
         Some(Frame::Message(_)) => "another message",
         Some(Frame::Malformed) => "malformed",
         Some(Frame::TooLarge) => "too large",
