@@ -5,3 +5,4 @@ pub mod Messages
 pub mod Replies
 pub mod Phases
 pub mod Reading
+pub mod Dispatch

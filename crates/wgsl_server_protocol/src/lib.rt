@@ -1,6 +1,7 @@
 //! The base of the Language Server Protocol: frames, messages, replies and the life of a server.
 #![tactic(auto)]
 
+mod dispatch;
 mod error;
 mod frame;
 mod front;
@@ -10,6 +11,7 @@ mod phase;
 mod reader;
 mod reply;
 
+pub use dispatch::{Life, Service};
 pub use error::ErrorCode;
 pub use frame::{framed, send};
 pub use front::Front;
