@@ -1,11 +1,11 @@
 //! Frames, messages and replies of the protocol.
 
 use serde_json::Value;
-use std::alloc::Global;
+use std::alloc::{AllocError, Global};
 use std::test::Fail;
 use wgsl_server_protocol::{
-    ErrorCode, Frame, FrameReader, Front, Message, Outcome, Phase, Step, failure, framed,
-    notification, reply_of, success,
+    ErrorCode, Frame, FrameReader, Front, Life, Message, Outcome, Phase, Service, Step, failure,
+    framed, notification, reply_of, success,
 };
 
 #[test]
@@ -143,5 +143,95 @@ fn phases(rt: HostRuntime) -> Result<(), Fail> {
     let late = Phase::Stopped.refusal("shutdown");
     assert_eq!(rt; late, Some(ErrorCode::InvalidRequest));
     assert_eq!(rt; Phase::Stopped.notification_step("exit"), Step::Exit(true));
+    Ok(())
+}
+
+/// A service with one method, which counts what it is told.
+#[derive(Drop)]
+struct Counter {
+    told: u64,
+}
+
+impl Service for Counter {
+    fn request(
+        &mut self,
+        _alloc: Global,
+        method: &str,
+        _params: Option<&Value>,
+    ) -> Result<Outcome, AllocError> {
+        if method == "count" {
+            Ok(Outcome::Done(Value::from(self.told)))
+        } else if method == "initialize" || method == "shutdown" {
+            Ok(Outcome::Done(Value::Null))
+        } else {
+            Ok(Outcome::Unknown)
+        }
+    }
+
+    fn notify(
+        &mut self,
+        _alloc: Global,
+        _method: &str,
+        _params: Option<&Value>,
+    ) -> Result<(), AllocError> {
+        self.told = self.told.saturating_add(1);
+        Ok(())
+    }
+}
+
+#[test]
+fn sessions(rt: HostRuntime) -> Result<(), Fail> {
+    let alloc = rt.alloc();
+    let mut service = Counter { told: 0 };
+    let mut life = Life {
+        phase: Phase::Starting,
+        ended: None,
+    };
+
+    // Each message with its reply, or an empty text for none.
+    let rows = [
+        (
+            "{\"id\":1,\"method\":\"count\"}",
+            "{\"error\":{\"code\":-32002,\"message\":\"not now\"},\"id\":1,\"jsonrpc\":\"2.0\"}",
+        ),
+        ("{\"method\":\"tell\"}", ""),
+        (
+            "{\"id\":2,\"method\":\"initialize\"}",
+            "{\"id\":2,\"jsonrpc\":\"2.0\",\"result\":null}",
+        ),
+        ("{\"method\":\"tell\"}", ""),
+        (
+            "{\"id\":\"a\",\"method\":\"count\"}",
+            "{\"id\":\"a\",\"jsonrpc\":\"2.0\",\"result\":1}",
+        ),
+        (
+            "{\"id\":3,\"method\":\"b\"}",
+            "{\"error\":{\"code\":-32601,\"message\":\"unknown method\"},\"id\":3,\"jsonrpc\":\"2.0\"}",
+        ),
+        ("{\"id\":3,\"result\":4}", ""),
+        (
+            "7",
+            "{\"error\":{\"code\":-32600,\"message\":\"no message\"},\"id\":null,\"jsonrpc\":\"2.0\"}",
+        ),
+        (
+            "{\"id\":4,\"method\":\"shutdown\"}",
+            "{\"id\":4,\"jsonrpc\":\"2.0\",\"result\":null}",
+        ),
+        (
+            "{\"id\":5,\"method\":\"count\"}",
+            "{\"error\":{\"code\":-32600,\"message\":\"not now\"},\"id\":5,\"jsonrpc\":\"2.0\"}",
+        ),
+        ("{\"method\":\"exit\"}", ""),
+    ];
+    for (text, wanted) in rows {
+        let value = Value::from_str(alloc, text)?;
+        let found = match life.receive(alloc, &mut service, &value)? {
+            Some(reply) => reply.to_string(alloc)?,
+            None => String::new(alloc),
+        };
+        assert!(rt; found.as_str() == wanted);
+    }
+    assert_eq!(rt; life.ended, Some(true));
+    assert_eq!(rt; service.told, 1);
     Ok(())
 }
