@@ -1,0 +1,5 @@
+pub mod Lists
+pub mod Kept
+pub mod Written
+pub mod Checked
+pub mod Found
