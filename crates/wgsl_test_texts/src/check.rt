@@ -12,6 +12,7 @@ use crate::modules::{see_tidied, see_unit};
 use crate::names::see_names;
 use crate::paths::see_path;
 use crate::programs::Call;
+use crate::renamed::see_renamed;
 use crate::row::{Field, Row};
 use crate::shortest::see_shortest;
 use crate::snippets::see_snippet;
@@ -80,6 +81,7 @@ fn see_text(
         "shorten" => see_shortest(text, facts),
         "minify" => see_minified(text, argument, facts),
         "names" => see_names(text, facts),
+        "rename" => see_renamed(text, argument, facts),
         "snippet" => see_snippet(text, argument, facts),
         _ => facts.expect(false, "a row says how its text is read"),
     }

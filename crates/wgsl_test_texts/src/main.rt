@@ -19,6 +19,7 @@ mod names;
 mod parts;
 mod paths;
 mod programs;
+mod renamed;
 mod row;
 mod shortest;
 mod snippets;
