@@ -148,6 +148,8 @@ pub use Rattle.wgsl_resolve_names.specs.Linked as NameReferents
 pub use Rattle.wgsl_resolve_names.specs.Found as FoundNames
 pub use Rattle.wgsl_read_names.specs.Texts as NamesOfTexts
 pub use Rattle.wgsl_references.specs.References
+pub use Rattle.wgsl_rename.specs.Renames
+pub use Rattle.wgsl_read_rename.specs.Renamed as RenamedTexts
 -- modules minified
 pub use Rattle.wgsl_model_short.specs.Shortened
 pub use Rattle.wgsl_model_short.specs.Shortest

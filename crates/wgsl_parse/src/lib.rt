@@ -62,6 +62,7 @@ pub mod names {
         Branch, Declared, Entry, Event, Name, Named, Names, Referent, Role, events, events_within,
         names, names_within,
     };
+    pub use wgsl_read_rename::{Refusal, RenameError, rename, rename_within};
     pub use wgsl_references::references;
 }
 
