@@ -27,8 +27,8 @@ pub enum Rewritten {
     Changed(Vec<u8>, Vec<u8>),
 }
 
-/// Formats a file. It is only written if that changes it, and an `Err` changes nothing. It fails
-/// only where there is no file.
+/// Formats a regular file. It is only written if that changes it, and an `Err` changes nothing. It
+/// fails only where there is no file.
 pub fn rewrite<S: Store, F: Format>(
     alloc: Global,
     store: &mut S,
@@ -42,7 +42,7 @@ pub fn rewrite<S: Store, F: Format>(
         IsFileError (F.refuses format.now) (S.files store.old) path.now e) }
     ensures err { OnErr result (Same (S.files store.old) (S.files store.new)) }
 {
-    let before = store.read(alloc, path)?;
+    let before = store.read_regular(alloc, path)?;
     let after = match format.format(alloc, before.as_slice()) {
         Ok(after) => after,
         Err(FormatError::OutOfMemory) => return Err(FileError::OutOfMemory),

@@ -55,6 +55,16 @@ impl<'a, R: Files + AllocGlobal + Clone + Drop> Store for HostStore<'a, R> {
         Ok(bytes)
     }
 
+    /// What is there is looked at before it is opened: to open a pipe waits for a writer. A folder
+    /// has an error of its own.
+    fn read_regular(&self, alloc: Global, path: &str) -> Result<Vec<u8>, StoreError> {
+        let metadata = std::fs::metadata(self.rt, path)?;
+        if !metadata.is_file() && !metadata.is_dir() {
+            return Err(not_regular().into());
+        }
+        self.read(alloc, path)
+    }
+
     fn replace(&mut self, alloc: Global, path: &str, bytes: &[u8]) -> Result<(), StoreError> {
         Ok(replace_file(self.rt, alloc, path, bytes)?)
     }
@@ -112,11 +122,16 @@ fn rename_filled<R: Files>(
     renamed
 }
 
+/// The error of a path that leads to no regular file.
+fn not_regular() -> io::Error {
+    io::Error::new(ErrorKind::InvalidInput, "not a regular file")
+}
+
 /// What is known of a file, which has to be a regular one that may be written.
 fn writable<R: Files>(rt: &R, path: &str) -> io::Result<Metadata> {
     let metadata = std::fs::metadata(rt, path)?;
     if !metadata.is_file() {
-        return Err(io::Error::new(ErrorKind::InvalidInput, "not a regular file"));
+        return Err(not_regular());
     }
     // A pipe would wait here for a reader, so this comes last.
     OpenOptions::new().write(true).open(rt, path)?;

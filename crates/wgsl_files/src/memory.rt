@@ -45,6 +45,10 @@ impl Store for MemoryStore {
         }
     }
 
+    fn read_regular(&self, alloc: Global, path: &str) -> Result<Vec<u8>, StoreError> {
+        self.read(alloc, path)
+    }
+
     fn replace(&mut self, alloc: Global, path: &str, bytes: &[u8]) -> Result<(), StoreError>
         ensures ok { OnOk result (Replaced (files_of self.old.files) (files_of self.new.files)
             path.now bytes.now) }

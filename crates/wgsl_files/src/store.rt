@@ -70,6 +70,12 @@ pub trait Store {
         ensures bytes { IfOk result (λ bytes. Holds (files self.now) path.now bytes.items) }
         ensures missing { IfErr result (λ e. IsMissing (files self.now) path.now e) };
 
+    /// Reads the bytes of the file at a path, as `read` does, but nothing of a device or a pipe,
+    /// which may have no end: that is an error.
+    fn read_regular(&self, alloc: Global, path: &str) -> Result<Vec<u8>, StoreError>
+        ensures bytes { IfOk result (λ bytes. Holds (files self.now) path.now bytes.items) }
+        ensures missing { IfErr result (λ e. IsMissing (files self.now) path.now e) };
+
     /// Puts these bytes at the path of a file in place of what it has. It fails only where there is
     /// no file. An `Err` changes nothing.
     fn replace(&mut self, alloc: Global, path: &str, bytes: &[u8]) -> Result<(), StoreError>

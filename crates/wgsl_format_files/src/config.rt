@@ -51,7 +51,7 @@ fn choices_by<S: Store>(
 fn said_at<S: Store>(alloc: Global, store: &S, path: &str) -> Result<Properties, AllocError>
     ensures { IfOk result (IsSaidAt (S.files store.now) path.now) }
 {
-    match store.read(alloc, path) {
+    match store.read_regular(alloc, path) {
         Ok(bytes) => Ok(said_by(bytes.as_slice())),
         Err(StoreError::OutOfMemory) => Err(AllocError),
         Err(StoreError::Failed(_)) => Ok(nothing_said()),
