@@ -1,0 +1,9 @@
+use Rattle.wgsl_error.proofs.Lines.{line_front_none, line_front_at}
+use Rattle.wgsl_report.proofs.place.after_last_line_feed.Goals as goal
+
+pub returns-in-Some : goal.returns-in-Some
+returns-in-Some c = line_front_at c.args.text.now c.in-Some.field-0-0.now c.in-Some.line.now
+    c.utf8.text c.in-Some.ensures.cases
+
+pub returns-in-None : goal.returns-in-None
+returns-in-None c = line_front_none c.args.text.now c.utf8.text c.in-None.ensures.cases
