@@ -1,3 +1,4 @@
 pub mod Lines
 pub mod Messages
 pub mod Undecoded
+pub mod Faults
