@@ -6,8 +6,8 @@ use Rattle.grammar.specs.Tokens.{Span, Token}
 use Rattle.grammar.specs.Endings.{Ending}
 use Rattle.wgsl_model.specs.Program.{ProcessOutput, complaint, Formats}
 use Rattle.wgsl_model.specs.Tokens.TokenList.{IsTokenList}
-use Rattle.wgsl_error.specs.Places.{message_in_file}
 use Rattle.wgsl_read_nesting.specs.Deeper.{IsFirstDeeper}
+use Rattle.wgsl_report.specs.Messages.{reported}
 
 -- a text nests deeper than a number of levels, and with the token at this span it first does
 abbrev pub NestsDeeper : ℕ → List ℕ → Span → Type 0
@@ -21,7 +21,7 @@ deeper_message depth = codes "nests deeper than " ++ decimal depth ++ codes " le
 -- this is reported of a text of the file of this name, at that token
 abbrev pub IsDeeperInFile : ℕ → List ℕ → List ℕ → List ℕ → Type 0
 IsDeeperInFile depth name text message = (span : Span) × NestsDeeper depth text span
-    × (message ≡ message_in_file name (deeper_message depth) text span)
+    × (message ≡ reported name (deeper_message depth) text span)
 
 -- this is due of a text that nests deeper: with its status, that and the place of the token
 abbrev pub IsTooDeep : ℕ → List ℕ → ProcessOutput → Type 0

@@ -5,8 +5,8 @@ ghost use Rattle.wgsl_span.specs.View.{span_view};
 ghost use Rattle.wgsl_format.specs.Deeper.{deeper_message, IsDeeperInFile, NestsDeeper};
 
 use std::alloc::{AllocError, Global};
-use wgsl_error::MessageInFile;
 use wgsl_read_nesting::first_deeper;
+use wgsl_report::message_in_file;
 use wgsl_span::Span;
 
 /// Where a text first nests deeper than a number of levels, if it does.
@@ -42,12 +42,6 @@ pub fn deeper_in_file(
         return Ok(None);
     };
     let message = deeper_message(alloc, depth)?;
-    let shown = MessageInFile {
-        message: message.as_str(),
-        span,
-        name,
-        source: text,
-    };
-    let told = shown.to_string(alloc)?;
+    let told = message_in_file(alloc, name, message.as_str(), text, span)?;
     Ok(Some(told))
 }

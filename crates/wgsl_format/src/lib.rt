@@ -2,6 +2,7 @@
 #![tactic(auto)]
 
 mod deeper;
+mod expected;
 mod formatter;
 mod printer;
 mod printing;
@@ -12,6 +13,7 @@ mod streams;
 mod tidied;
 
 pub use deeper::deeper_in_file;
+pub use expected::with_expected;
 pub use formatter::Formatter;
 pub use printer::Printer;
 pub use printing::{run, start, start_with};

@@ -9,7 +9,8 @@ ghost use Rattle.wgsl_format_files.specs.Tidy.{Refuses, IsRefusedFor, IsNotUtf8,
 use std::alloc::Global;
 use wgsl_error::{Error, ErrorKind};
 use wgsl_files::{Format, FormatError, Refusal, Status};
-use wgsl_format::{Layout, deeper_in_file, tidy_within, unmarked};
+use wgsl_format::{Layout, deeper_in_file, tidy_within, unmarked, with_expected};
+use wgsl_report::{error_in_file, undecoded_in_file};
 
 /// How many levels deep a module may nest: a level takes at most 1,300 bytes of a stack of 8 MB, of
 /// which a third is spare.
@@ -30,7 +31,7 @@ impl Format for Tidy {
 
     fn format(&self, alloc: Global, text: &[u8]) -> Result<Vec<u8>, FormatError> {
         let Ok(source) = std::str::from_utf8(text) else {
-            return Err(not_utf8(alloc));
+            return Err(not_utf8(alloc, text));
         };
         match tidy_within(alloc, source, self.layout, DEPTH) {
             Ok(formatted) => Ok(formatted.into_bytes()),
@@ -47,7 +48,8 @@ fn refusal(alloc: Global, source: &str, error: Error) -> FormatError
     if matches!(error.error, ErrorKind::OutOfMemory) {
         return too_deep(alloc, source);
     }
-    match error.in_file("", source).to_string(alloc) {
+    let error = with_expected(alloc, source, error);
+    match error_in_file(alloc, "", &error, source) {
         Ok(message) => FormatError::Refused(Refusal {
             status: Status::Refused,
             message,
@@ -71,14 +73,15 @@ fn too_deep(alloc: Global, source: &str) -> FormatError
 }
 
 /// The refusal of bytes that are no text.
-fn not_utf8(alloc: Global) -> FormatError
-    ensures { IsRefusal IsNotUtf8 result }
+#[tactic(auto, using(crate::proofs::Refusals::undecoded_told))]
+fn not_utf8(alloc: Global, bytes: &[u8]) -> FormatError
+    ensures { IsRefusal (IsNotUtf8 bytes.now) result }
 {
-    match String::from_str(alloc, ": error: not UTF-8") {
-        Ok(message) => FormatError::Refused(Refusal {
+    match undecoded_in_file(alloc, "", bytes) {
+        Ok(Some(message)) => FormatError::Refused(Refusal {
             status: Status::Refused,
             message,
         }),
-        Err(_) => FormatError::OutOfMemory,
+        _ => FormatError::OutOfMemory,
     }
 }

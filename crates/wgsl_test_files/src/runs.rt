@@ -80,7 +80,8 @@ pub fn has(store: &MemoryStore, path: &str, text: &str) -> bool {
     }
 }
 
-const ERROR: &str = "b/c.wgsl:2:5: error: unexpected token `=`\n    = 1;\n    ^\n";
+const ERROR: &str = "b/c.wgsl:2:5: error: unexpected token `=`, \
+    expected identifier, `&`, `@`, `{`, ..\n    = 1;\n    ^\n";
 
 #[test]
 fn formats_files_in_place(rt: HostRuntime) -> Result<(), Fail> {
@@ -123,11 +124,13 @@ fn formats_the_standard_input(rt: HostRuntime) -> Result<(), Fail> {
         let printed = run_of(alloc, &mut store, arguments, "fn f(){}")?;
         assert!(rt; is_run(&printed, 0, "fn f() {}\n", ""));
         let refused = run_of(alloc, &mut store, arguments, "fn f() { = }")?;
-        let error = "<stdin>:1:10: error: unexpected token `=`\nfn f() { = }\n         ^\n";
+        let error = "<stdin>:1:10: error: unexpected token `=`, \
+            expected identifier, `&`, `@`, `{`, ..\nfn f() { = }\n         ^\n";
         assert!(rt; is_run(&refused, 3, "", error));
     }
     let named = run_of(alloc, &mut store, "--stdin-path x.wgsl", "fn f() { = }")?;
-    let error = "x.wgsl:1:10: error: unexpected token `=`\nfn f() { = }\n         ^\n";
+    let error = "x.wgsl:1:10: error: unexpected token `=`, \
+        expected identifier, `&`, `@`, `{`, ..\nfn f() { = }\n         ^\n";
     assert!(rt; is_run(&named, 3, "", error));
     let listed = run_of(alloc, &mut store, "--check -", "fn f(){}")?;
     assert!(rt; is_run(&listed, 1, "<stdin>\n", ""));

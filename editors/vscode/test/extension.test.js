@@ -83,7 +83,7 @@ test('an error is marked until it is mended', async () => {
   const [{ range, message, source }] = diagnostics();
   const start = line.indexOf('loop');
   assert.deepEqual(range.numbers, [1, start, 1, start + 'loop'.length]);
-  assert.equal(message, 'unexpected token `loop`');
+  assert.equal(message, 'unexpected token `loop`, expected identifier');
   assert.equal(source, 'wgsltidy');
   assert.deepEqual(seen.messages, []);
   assert.equal((await format('fn f() {\n  let a = 1;\n}\n')).length, 2);
