@@ -9,8 +9,8 @@ use wgsl_read_nesting::first_deeper;
 use wgsl_report::message_in_file;
 use wgsl_span::Span;
 
-/// Where a text first nests deeper than a number of levels, if it does.
-pub(crate) fn deeper_at(alloc: Global, text: &str, depth: usize) -> Result<Option<Span>, AllocError>
+/// Returns where a text first nests deeper than a number of levels, if it does.
+pub fn deeper_at(alloc: Global, text: &str, depth: usize) -> Result<Option<Span>, AllocError>
     ensures { IfOk result (λ found. IfSome found (λ span.
         NestsDeeper depth (chars text.now) (span_view span))) }
 {
@@ -20,8 +20,8 @@ pub(crate) fn deeper_at(alloc: Global, text: &str, depth: usize) -> Result<Optio
     }
 }
 
-/// What is reported there.
-pub(crate) fn deeper_message(alloc: Global, depth: usize) -> Result<String, AllocError>
+/// Returns what is reported there.
+pub fn deeper_message(alloc: Global, depth: usize) -> Result<String, AllocError>
     ensures { IfOk result (λ message. string_bytes message ≡ deeper_message depth) }
 {
     format!(in alloc; "nests deeper than {depth} levels")

@@ -13,8 +13,8 @@ use wgsl_error::{Error, ErrorKind};
 use wgsl_format_layout::Newlines;
 use wgsl_span::Span;
 
-/// The byte order mark of a source, or the empty text, and the text after it.
-pub(crate) fn split_mark(source: &str) -> (&str, &str)
+/// Returns the byte order mark of a source, or the empty text, and the text after it.
+pub fn split_mark(source: &str) -> (&str, &str)
     ensures mark { chars result.0.now ≡ model.mark_of (chars source.now) }
     ensures text { chars result.1.now ≡ model.unmarked (chars source.now) }
     ensures width { length result.0.now ≡ width (model.mark_of (chars source.now)) }
