@@ -20,11 +20,16 @@
  * What a caller must see to, since no call can test it: the bytes of a text can be read, and do not
  * change until the call returns; the buffer and the answer can be written, whatever they hold; what
  * is read, the buffer and the answer do not overlap; and there is enough stack.
- * A text nests as deep as its brackets, blocks, template lists and prefix operators do, and each
- * takes stack while the text is read: as measured over wgsl_recognize, wgsl_check, wgsl_format,
- * wgsl_tree and wgsl_packed_tree, at most 2,800 bytes, in wgsl_minify 3,800, and in wgsl_tidy 1,900.
- * wgsl_nesting returns how deep a text nests, and takes no such stack; nor does wgsl_print. A left
- * operand, and what is before a component or an index, takes none.
+ *
+ * Depth. A text nests as deep as its brackets, blocks, template lists and prefix operators do, and
+ * each takes stack while the text is read: as measured over wgsl_recognize, wgsl_check,
+ * wgsl_format, wgsl_tree and wgsl_packed_tree, at most 2,800 bytes, in wgsl_minify 3,800, and in
+ * wgsl_tidy 1,900. A left operand, and what is before a component or an index, takes none. So these
+ * calls and wgsl_snippet read a text that nests up to WGSL_DEPTH levels deep, for which 1 MB of
+ * stack is enough. Of one that nests deeper the status is WGSL_TOO_DEEP, unless a fault before that
+ * place is found; a few more levels may be accepted. Each of these calls has another one, with
+ * _within at the end of its name, which first takes how many levels deep a text may nest.
+ * wgsl_nesting returns how deep a text nests, and takes no such stack; nor does wgsl_print.
  *
  * Memory. While it runs, a call takes memory by the program's malloc, realloc and free, and gives
  * all of it back before it returns. Where they fail, the status is WGSL_OUT_OF_MEMORY. The three
@@ -62,8 +67,15 @@ enum wgsl_status {
     WGSL_UNKNOWN = 5,
     /* A null pointer where memory is wanted, a number that no memory has, or a name of a file or
      * names to keep that are not UTF-8. */
-    WGSL_BAD_ARGUMENT = 6
+    WGSL_BAD_ARGUMENT = 6,
+    /* The text nests too deep. The answer has the place of the first token with which it does, and
+     * the buffer, if it fits as for WGSL_REFUSED, the message, such as `nests deeper than 200
+     * levels`, with a byte 0 after it; that of wgsl_snippet the lines that show it. */
+    WGSL_TOO_DEEP = 7
 };
+
+/* How many levels deep a text may nest for the calls whose names do not end with _within. */
+#define WGSL_DEPTH 200
 
 /* The kinds of faults. */
 enum wgsl_fault {
@@ -247,21 +259,40 @@ enum wgsl_token_kind {
  * and what is counted has at most WGSL_GREATEST bytes. */
 uint32_t wgsl_c_format(const uint8_t *text, size_t size, uint8_t *buffer, size_t buffer_size,
                        struct wgsl_answer *answer);
+uint32_t wgsl_c_format_within(size_t depth, const uint8_t *text, size_t size, uint8_t *buffer,
+                              size_t buffer_size, struct wgsl_answer *answer);
 uint32_t wgsl_c_tidy(const struct wgsl_layout *layout, const uint8_t *text, size_t size,
                      uint8_t *buffer, size_t buffer_size, struct wgsl_answer *answer);
+uint32_t wgsl_c_tidy_within(size_t depth, const struct wgsl_layout *layout, const uint8_t *text,
+                            size_t size, uint8_t *buffer, size_t buffer_size,
+                            struct wgsl_answer *answer);
 uint32_t wgsl_c_minify(uint32_t names, const uint8_t *keep, size_t keep_size, const uint8_t *text,
                        size_t size, uint8_t *buffer, size_t buffer_size,
                        struct wgsl_answer *answer);
+uint32_t wgsl_c_minify_within(size_t depth, uint32_t names, const uint8_t *keep, size_t keep_size,
+                              const uint8_t *text, size_t size, uint8_t *buffer, size_t buffer_size,
+                              struct wgsl_answer *answer);
 uint32_t wgsl_c_check(const uint8_t *text, size_t size, uint8_t *buffer, size_t buffer_size,
                       struct wgsl_answer *answer);
+uint32_t wgsl_c_check_within(size_t depth, const uint8_t *text, size_t size, uint8_t *buffer,
+                             size_t buffer_size, struct wgsl_answer *answer);
 uint32_t wgsl_c_snippet(const uint8_t *name, size_t name_size, const uint8_t *text, size_t size,
                         uint8_t *buffer, size_t buffer_size, struct wgsl_answer *answer);
+uint32_t wgsl_c_snippet_within(size_t depth, const uint8_t *name, size_t name_size,
+                               const uint8_t *text, size_t size, uint8_t *buffer,
+                               size_t buffer_size, struct wgsl_answer *answer);
 uint32_t wgsl_c_recognize(const uint8_t *text, size_t size, uint8_t *buffer, size_t buffer_size,
                           struct wgsl_answer *answer);
+uint32_t wgsl_c_recognize_within(size_t depth, const uint8_t *text, size_t size, uint8_t *buffer,
+                                 size_t buffer_size, struct wgsl_answer *answer);
 uint32_t wgsl_c_tree(uint32_t kind, const uint8_t *text, size_t size, uint8_t *buffer,
                      size_t buffer_size, struct wgsl_answer *answer);
+uint32_t wgsl_c_tree_within(size_t depth, uint32_t kind, const uint8_t *text, size_t size,
+                            uint8_t *buffer, size_t buffer_size, struct wgsl_answer *answer);
 uint32_t wgsl_c_packed_tree(uint32_t kind, const uint8_t *text, size_t size, uint8_t *buffer,
                             size_t buffer_size, struct wgsl_answer *answer);
+uint32_t wgsl_c_packed_tree_within(size_t depth, uint32_t kind, const uint8_t *text, size_t size,
+                                   uint8_t *buffer, size_t buffer_size, struct wgsl_answer *answer);
 uint32_t wgsl_c_print(const uint8_t *form, size_t size, uint8_t *buffer, size_t buffer_size,
                       struct wgsl_answer *answer);
 uint32_t wgsl_c_tokens(const uint8_t *text, size_t size, struct wgsl_token *buffer,
@@ -302,6 +333,17 @@ static inline uint32_t wgsl_format(const char *text, size_t size, char *buffer, 
                          buffer_size, answer);
 }
 
+/* The same as wgsl_format, of a text that may nest a number of levels deep. */
+static inline uint32_t wgsl_format_within(size_t depth, const char *text, size_t size, char *buffer,
+                                          size_t buffer_size, struct wgsl_answer *answer) {
+    if (!wgsl_is_memory(text, size, 1) || !wgsl_is_memory(buffer, buffer_size, 1)
+        || answer == NULL) {
+        return WGSL_BAD_ARGUMENT;
+    }
+    return wgsl_c_format_within(depth, (const uint8_t *)wgsl_at(text), size,
+                                (uint8_t *)wgsl_at(buffer), buffer_size, answer);
+}
+
 /* Writes the formatted text of a module, with its comments, as wgsltidy does, into the buffer; by
  * the standard layout if the layout is null. Names are not checked, so a module with a name that
  * this library does not know is formatted too. */
@@ -314,6 +356,20 @@ static inline uint32_t wgsl_tidy(const struct wgsl_layout *layout, const char *t
     }
     return wgsl_c_tidy(layout != NULL ? layout : &standard, (const uint8_t *)wgsl_at(text), size,
                        (uint8_t *)wgsl_at(buffer), buffer_size, answer);
+}
+
+/* The same as wgsl_tidy, of a text that may nest a number of levels deep. */
+static inline uint32_t wgsl_tidy_within(size_t depth, const struct wgsl_layout *layout,
+                                        const char *text, size_t size, char *buffer,
+                                        size_t buffer_size, struct wgsl_answer *answer) {
+    static const struct wgsl_layout standard = WGSL_STANDARD_LAYOUT;
+    if (!wgsl_is_memory(text, size, 1) || !wgsl_is_memory(buffer, buffer_size, 1)
+        || answer == NULL) {
+        return WGSL_BAD_ARGUMENT;
+    }
+    return wgsl_c_tidy_within(depth, layout != NULL ? layout : &standard,
+                              (const uint8_t *)wgsl_at(text), size, (uint8_t *)wgsl_at(buffer),
+                              buffer_size, answer);
 }
 
 /* Writes the minified text of a module into the buffer and, after it, its new names: JSON with a
@@ -337,6 +393,20 @@ static inline uint32_t wgsl_minify(uint32_t names, const char *keep, size_t keep
                          buffer_size, answer);
 }
 
+/* The same as wgsl_minify, of a text that may nest a number of levels deep. */
+static inline uint32_t wgsl_minify_within(size_t depth, uint32_t names, const char *keep,
+                                          size_t keep_size, const char *text, size_t size,
+                                          char *buffer, size_t buffer_size,
+                                          struct wgsl_answer *answer) {
+    if (!wgsl_is_memory(keep, keep_size, 1) || !wgsl_is_memory(text, size, 1)
+        || !wgsl_is_memory(buffer, buffer_size, 1) || answer == NULL) {
+        return WGSL_BAD_ARGUMENT;
+    }
+    return wgsl_c_minify_within(depth, names, (const uint8_t *)wgsl_at(keep), keep_size,
+                                (const uint8_t *)wgsl_at(text), size, (uint8_t *)wgsl_at(buffer),
+                                buffer_size, answer);
+}
+
 /* Checks whether a text is a module: WGSL_DONE with the size 0, or WGSL_REFUSED. The buffer is for
  * the texts of the fault. */
 static inline uint32_t wgsl_check(const char *text, size_t size, char *buffer, size_t buffer_size,
@@ -347,6 +417,17 @@ static inline uint32_t wgsl_check(const char *text, size_t size, char *buffer, s
     }
     return wgsl_c_check((const uint8_t *)wgsl_at(text), size, (uint8_t *)wgsl_at(buffer),
                         buffer_size, answer);
+}
+
+/* The same as wgsl_check, of a text that may nest a number of levels deep. */
+static inline uint32_t wgsl_check_within(size_t depth, const char *text, size_t size, char *buffer,
+                                         size_t buffer_size, struct wgsl_answer *answer) {
+    if (!wgsl_is_memory(text, size, 1) || !wgsl_is_memory(buffer, buffer_size, 1)
+        || answer == NULL) {
+        return WGSL_BAD_ARGUMENT;
+    }
+    return wgsl_c_check_within(depth, (const uint8_t *)wgsl_at(text), size,
+                               (uint8_t *)wgsl_at(buffer), buffer_size, answer);
 }
 
 /* Checks whether a text is a module, as wgsl_check does. If it is not, the buffer is for lines that
@@ -376,6 +457,19 @@ static inline uint32_t wgsl_snippet(const char *name, size_t name_size, const ch
                           size, (uint8_t *)wgsl_at(buffer), buffer_size, answer);
 }
 
+/* The same as wgsl_snippet, of a text that may nest a number of levels deep. */
+static inline uint32_t wgsl_snippet_within(size_t depth, const char *name, size_t name_size,
+                                           const char *text, size_t size, char *buffer,
+                                           size_t buffer_size, struct wgsl_answer *answer) {
+    if (!wgsl_is_memory(name, name_size, 1) || !wgsl_is_memory(text, size, 1)
+        || !wgsl_is_memory(buffer, buffer_size, 1) || answer == NULL) {
+        return WGSL_BAD_ARGUMENT;
+    }
+    return wgsl_c_snippet_within(depth, (const uint8_t *)wgsl_at(name), name_size,
+                                 (const uint8_t *)wgsl_at(text), size, (uint8_t *)wgsl_at(buffer),
+                                 buffer_size, answer);
+}
+
 /* Checks whether a text is a module of a smaller language, the dialect, as wgsl_check does: its
  * names are identifiers only, also after `@`, its sums have no `--`, and fewer nodes have
  * attributes; what attributes, `var` templates and diagnostics contain is not checked. */
@@ -387,6 +481,18 @@ static inline uint32_t wgsl_recognize(const char *text, size_t size, char *buffe
     }
     return wgsl_c_recognize((const uint8_t *)wgsl_at(text), size, (uint8_t *)wgsl_at(buffer),
                             buffer_size, answer);
+}
+
+/* The same as wgsl_recognize, of a text that may nest a number of levels deep. */
+static inline uint32_t wgsl_recognize_within(size_t depth, const char *text, size_t size,
+                                             char *buffer, size_t buffer_size,
+                                             struct wgsl_answer *answer) {
+    if (!wgsl_is_memory(text, size, 1) || !wgsl_is_memory(buffer, buffer_size, 1)
+        || answer == NULL) {
+        return WGSL_BAD_ARGUMENT;
+    }
+    return wgsl_c_recognize_within(depth, (const uint8_t *)wgsl_at(text), size,
+                                   (uint8_t *)wgsl_at(buffer), buffer_size, answer);
 }
 
 /* Writes the tree of a kind (enum wgsl_tree_kind) that a text is into the buffer, as JSON: each
@@ -402,6 +508,18 @@ static inline uint32_t wgsl_tree(uint32_t kind, const char *text, size_t size, c
                        buffer_size, answer);
 }
 
+/* The same as wgsl_tree, of a text that may nest a number of levels deep. */
+static inline uint32_t wgsl_tree_within(size_t depth, uint32_t kind, const char *text, size_t size,
+                                        char *buffer, size_t buffer_size,
+                                        struct wgsl_answer *answer) {
+    if (!wgsl_is_memory(text, size, 1) || !wgsl_is_memory(buffer, buffer_size, 1)
+        || answer == NULL) {
+        return WGSL_BAD_ARGUMENT;
+    }
+    return wgsl_c_tree_within(depth, kind, (const uint8_t *)wgsl_at(text), size,
+                              (uint8_t *)wgsl_at(buffer), buffer_size, answer);
+}
+
 /* Writes the tree of a kind (enum wgsl_tree_kind) that a text is, by its packed form, into the
  * buffer: bytes from which wgsl_print prints the tree, and which the functions of wgsl_packed.h
  * read. WGSL_UNKNOWN where the kind is not one of these. Most forms fit where the buffer is ten times
@@ -415,6 +533,18 @@ static inline uint32_t wgsl_packed_tree(uint32_t kind, const char *text, size_t 
     }
     return wgsl_c_packed_tree(kind, (const uint8_t *)wgsl_at(text), size,
                               (uint8_t *)wgsl_at(buffer), buffer_size, answer);
+}
+
+/* The same as wgsl_packed_tree, of a text that may nest a number of levels deep. */
+static inline uint32_t wgsl_packed_tree_within(size_t depth, uint32_t kind, const char *text,
+                                               size_t size, uint8_t *buffer, size_t buffer_size,
+                                               struct wgsl_answer *answer) {
+    if (!wgsl_is_memory(text, size, 1) || !wgsl_is_memory(buffer, buffer_size, 1)
+        || answer == NULL) {
+        return WGSL_BAD_ARGUMENT;
+    }
+    return wgsl_c_packed_tree_within(depth, kind, (const uint8_t *)wgsl_at(text), size,
+                                     (uint8_t *)wgsl_at(buffer), buffer_size, answer);
 }
 
 /* Writes the printed text of the node that a packed form describes into the buffer: of a tree that

@@ -105,7 +105,7 @@ int main(void) {
     uint32_t status;
     if (size == sizeof text) return WGSL_TOO_SMALL;
     status = wgsl_packed_tree(WGSL_UNIT, text, size, form, sizeof form, &answer);
-    if (status == WGSL_REFUSED) {
+    if (status == WGSL_REFUSED || status == WGSL_TOO_DEEP) {
         struct wgsl_position at = wgsl_position_of(text, size, answer.start);
         fprintf(stderr, "%zu:%zu: error: %s\n", at.line, at.column, (const char *)form);
     }

@@ -69,6 +69,7 @@ int main(int count, char **arguments) {
         fwrite(buffer, 1, answer.size, stdout);
         break;
     case WGSL_REFUSED:
+    case WGSL_TOO_DEEP:
         report(arguments[1], wgsl_position_of(text, size, answer.start), buffer);
         break;
     case WGSL_NOT_UTF8:

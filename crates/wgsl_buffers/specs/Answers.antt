@@ -51,6 +51,11 @@ error_lines name source e = if length name == 0
     then snippet (print_error_kind e.error) source (span_view e.span)
     else message_in_file name (print_message e.error) source (span_view e.span)
 
+-- these texts are at the front of the buffer if they fit, and else it stays as it was
+abbrev pub HoldsOrKeeps : List ℕ → List ℕ → List ℕ → Type 0
+HoldsOrKeeps texts before buffer =
+    (take (length texts) buffer ≡ texts) ⊎ ((length before < length texts) × (buffer ≡ before))
+
 -- the answer has the kind and the place of the error, and how many bytes these texts of it have;
 -- they are at the front of the buffer if they fit, and else it stays as it was
 abbrev pub TellsTexts : List ℕ → Error → List ℕ → List ℕ → Answer → Type 0
@@ -62,7 +67,7 @@ TellsTexts texts e before buffer a =
       kind = kind_number e.error;
       expected = length (expected_texts e.error);
     })
-    × ((take (length texts) buffer ≡ texts) ⊎ ((length before < length texts) × (buffer ≡ before)))
+    × HoldsOrKeeps texts before buffer
 
 -- the same of its message and of what was expected
 abbrev pub TellsError : Error → List ℕ → List ℕ → Answer → Type 0

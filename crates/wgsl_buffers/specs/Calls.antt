@@ -23,6 +23,7 @@ use Rattle.wgsl_buffers.specs.declared.tokens.PlacedKind.{PlacedKind}
 use Rattle.wgsl_buffers.specs.Answers.{counted, of_kind, Refuses, RefusesWithLines, Holds, Lacks, IsNoText}
 use Rattle.wgsl_buffers.specs.Items.{count_of, counted_to, HoldItems, kind_and_place, token_items, start_and_end, ArePlaces}
 use Rattle.wgsl_buffers.specs.Comments.{AreTokensAndComments}
+use Rattle.wgsl_buffers.specs.Deep.{TellsDeeper, TellsDeeperAfterMark, TellsDeeperLines}
 use Rattle.wgsl_buffers.specs.Trees.{Tree, tree_of, IsJsonIn, IsOnlyPrint, IsPackedOf}
 
 -- what each call promises: 2 only for bytes that are no text, and 3 with nothing in the answer
@@ -31,65 +32,75 @@ pub record Reads (text : List ℕ) (answer : Answer) (result : ℕ) : Type 0 whe
   pub memory : result ≡ 3 → answer ≡ counted 0
   pub valid : ¬ (result ≡ 2) → IsUtf8 text
 
--- the text that a module is printed as, or the fault that is named
-pub record Formats (text before buffer : List ℕ) (answer : Answer) (result : ℕ) : Type 0 where
+-- the text that a module is printed as, or the fault that is named, or that it nests deeper than a
+-- number of levels
+pub record Formats (depth : ℕ) (text before buffer : List ℕ) (answer : Answer) (result : ℕ) : Type 0 where
   pub printed : result ≡ 0
       → (unit : model.TranslationUnit) × IsUnit (chars text) unit × Holds (print_unit unit) buffer answer
   pub refused : result ≡ 1 → Refuses IsFaultOf text before buffer answer
   pub small : result ≡ 4
       → (unit : model.TranslationUnit) × IsUnit (chars text) unit × Lacks (print_unit unit) before buffer answer
-  pub status : result ≤ 4
+  pub deeper : result ≡ 7 → TellsDeeper depth text before buffer answer
+  pub status : (result ≤ 4) ⊎ (result ≡ 7)
   pub reads : Reads text answer result
 
--- the formatted text of a module, with its comments, or the fault that is named
-pub record Tidies (layout : Layout) (text before buffer : List ℕ) (answer : Answer) (result : ℕ) : Type 0 where
+-- the formatted text of a module, with its comments, or the fault that is named, or that it nests
+-- deeper
+pub record Tidies (depth : ℕ) (layout : Layout) (text before buffer : List ℕ) (answer : Answer)
+    (result : ℕ) : Type 0 where
   pub formatted : result ≡ 0 → (out : List ℕ) × IsTidiedBy layout text out × Holds out buffer answer
   pub refused : result ≡ 1 → Refuses IsFaultAfterMark text before buffer answer
   pub small : result ≡ 4 → (out : List ℕ) × IsTidiedBy layout text out × Lacks out before buffer answer
-  pub status : result ≤ 4
+  pub deeper : result ≡ 7 → TellsDeeperAfterMark depth text before buffer answer
+  pub status : (result ≤ 4) ⊎ (result ≡ 7)
   pub reads : Reads text answer result
 
--- that a text is a module, or the fault that is named
-pub record Checks (text before buffer : List ℕ) (answer : Answer) (result : ℕ) : Type 0 where
+-- that a text is a module, or the fault that is named, or that it nests deeper
+pub record Checks (depth : ℕ) (text before buffer : List ℕ) (answer : Answer) (result : ℕ) : Type 0 where
   pub accepted : result ≡ 0 → (unit : model.TranslationUnit) × IsUnit (chars text) unit × (answer ≡ counted 0)
   pub refused : result ≡ 1 → Refuses IsFaultOf text before buffer answer
-  pub status : result ≤ 3
+  pub deeper : result ≡ 7 → TellsDeeper depth text before buffer answer
+  pub status : (result ≤ 3) ⊎ (result ≡ 7)
   pub reads : Reads text answer result
 
--- that a text is a module, or the fault that is named, with its line, in a file with a name if that
--- is not empty; 6 only for a name that is no text, of a text that is one
-pub record WritesSnippet (name text before buffer : List ℕ) (answer : Answer) (result : ℕ) : Type 0 where
+-- that a text is a module, or the fault that is named, or that it nests deeper, with the line, in a
+-- file with a name if that is not empty; 6 only for a name that is no text, of a text that is one
+pub record WritesSnippet (depth : ℕ) (name text before buffer : List ℕ) (answer : Answer) (result : ℕ) : Type 0 where
   pub accepted : result ≡ 0 → (unit : model.TranslationUnit) × IsUnit (chars text) unit × (answer ≡ counted 0)
   pub refused : result ≡ 1 → RefusesWithLines IsFaultOf name text before buffer answer
   pub bad_name : result ≡ 6 → ¬ (IsUtf8 name) × (buffer ≡ before)
   pub named : ¬ (IsUtf8 name) → (result ≡ 2) ⊎ (result ≡ 6)
-  pub status : (result ≤ 3) ⊎ (result ≡ 6)
+  pub deeper : result ≡ 7 → TellsDeeperLines name depth text before buffer answer
+  pub status : (result ≤ 3) ⊎ ((result ≡ 6) ⊎ (result ≡ 7))
   pub reads : Reads text answer result
 
--- that a text is a module of the dialect, or the fault that is named
-pub record Recognizes (text before buffer : List ℕ) (answer : Answer) (result : ℕ) : Type 0 where
+-- that a text is a module of the dialect, or the fault that is named, or that it nests deeper
+pub record Recognizes (depth : ℕ) (text before buffer : List ℕ) (answer : Answer) (result : ℕ) : Type 0 where
   pub accepted : result ≡ 0 → IsRecognized (chars text) × (answer ≡ counted 0)
   pub refused : result ≡ 1 → Refuses IsRefused text before buffer answer
-  pub status : result ≤ 3
+  pub deeper : result ≡ 7 → TellsDeeper depth text before buffer answer
+  pub status : (result ≤ 3) ⊎ (result ≡ 7)
   pub reads : Reads text answer result
 
--- a form of the tree with a number that a text derives, or the fault that is named
-pub record WritesForm (IsForm : Tree → List ℕ → List ℕ → Type 0) (what : ℕ) (text before buffer : List ℕ)
+-- a form of the tree with a number that a text derives, or the fault that is named, or that it nests
+-- deeper
+pub record WritesForm (IsForm : Tree → List ℕ → List ℕ → Type 0) (depth what : ℕ) (text before buffer : List ℕ)
     (answer : Answer) (result : ℕ) : Type 0 where
   pub accepted : result ≡ 0 → (form : List ℕ) × IsForm (tree_of what) (chars text) form × Holds form buffer answer
   pub refused : result ≡ 1 → Refuses (IsFaultIn (tree_of what).symbol) text before buffer answer
   pub small : result ≡ 4 → (form : List ℕ) × IsForm (tree_of what) (chars text) form × Lacks form before buffer answer
   pub unknown : result ≡ 5 → (4 < what) × (answer ≡ counted 0)
   pub known : 4 < what → (result ≡ 2) ⊎ (result ≡ 5)
-  pub status : result ≤ 5
+  pub deeper : result ≡ 7 → TellsDeeper depth text before buffer answer
+  pub status : (result ≤ 5) ⊎ (result ≡ 7)
   pub reads : Reads text answer result
 
 -- the JSON
-abbrev pub WritesTree : ℕ → List ℕ → List ℕ → List ℕ → Answer → ℕ → Type 0
+abbrev pub WritesTree : ℕ → ℕ → List ℕ → List ℕ → List ℕ → Answer → ℕ → Type 0
 WritesTree = WritesForm IsJsonIn
 
 -- the packed form
-abbrev pub WritesPackedTree : ℕ → List ℕ → List ℕ → List ℕ → Answer → ℕ → Type 0
+abbrev pub WritesPackedTree : ℕ → ℕ → List ℕ → List ℕ → List ℕ → Answer → ℕ → Type 0
 WritesPackedTree = WritesForm IsPackedOf
 
 -- what the rules print of a packed form; 1 only for bytes of which they print nothing

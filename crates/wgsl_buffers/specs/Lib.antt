@@ -1,4 +1,5 @@
 pub mod Answers
+pub mod Deep
 pub mod Items
 pub mod Comments
 pub mod Kinds

@@ -9,6 +9,7 @@ use Rattle.wgsl_minify.specs.Modules.{IsMinified}
 use Rattle.wgsl_buffers.specs.declared.answer.Answer.{Answer}
 use Rattle.wgsl_buffers.specs.Answers.{counted, Refuses}
 use Rattle.wgsl_buffers.specs.Calls.{Reads}
+use Rattle.wgsl_buffers.specs.Deep.{TellsDeeper}
 
 -- which names get new ones: by 0 none, by 1 those that are declared in functions alone, else all
 abbrev pub which_of : ℕ → Which
@@ -28,9 +29,9 @@ pub record AreMinified (which : Which) (keep source bytes : List ℕ) (answer : 
   pub parts : bytes ≡ text ++ map_form table
   pub places : answer ≡ with_names (length bytes) (length text)
 
--- the minified text of a module and the JSON of its new names, or the fault that is named; 5 only for
--- a number of no choice, and 6 for names to keep that are no text
-pub record Minifies (names : ℕ) (keep text before buffer : List ℕ) (answer : Answer) (result : ℕ) : Type 0 where
+-- the minified text of a module and the JSON of its new names, or the fault that is named, or that it
+-- nests deeper; 5 only for a number of no choice, and 6 for names to keep that are no text
+pub record Minifies (depth names : ℕ) (keep text before buffer : List ℕ) (answer : Answer) (result : ℕ) : Type 0 where
   pub minified : result ≡ 0
       → (bytes : List ℕ) × AreMinified (which_of names) keep text bytes answer × (take (length bytes) buffer ≡ bytes)
   pub refused : result ≡ 1 → Refuses IsFaultOf text before buffer answer
@@ -39,6 +40,7 @@ pub record Minifies (names : ℕ) (keep text before buffer : List ℕ) (answer :
   pub unknown : result ≡ 5 → (2 < names) × (answer ≡ counted 0)
   pub known : 2 < names → (result ≡ 2) ⊎ (result ≡ 5)
   pub bad_keep : result ≡ 6 → ¬ (IsUtf8 keep) × (buffer ≡ before)
-  pub kept : ¬ (IsUtf8 keep) → (result ≡ 2) ⊎ (5 ≤ result)
-  pub status : result ≤ 6
+  pub kept : ¬ (IsUtf8 keep) → (result ≡ 2) ⊎ ((5 ≤ result) × (result ≤ 6))
+  pub deeper : result ≡ 7 → TellsDeeper depth text before buffer answer
+  pub status : result ≤ 7
   pub reads : Reads text answer result

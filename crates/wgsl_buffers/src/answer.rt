@@ -26,6 +26,10 @@ pub const UNKNOWN: u32 = 5;
 /// The name of a file is not UTF-8. Nothing is written.
 pub const BAD_NAME: u32 = 6;
 
+/// The text nests too deep: the answer has the place where it first does, and the message is in the
+/// buffer if it fits.
+pub const TOO_DEEP: u32 = 7;
+
 /// The result of a call beside its status. A number that does not go with the status is 0.
 #[repr(C)]
 #[derive(Clone, Copy, Debug, PartialEq, Eq)]

@@ -4,8 +4,10 @@ ghost use Rattle.std.specs.Prelude.{◌≡◌, ◌⊎◌, ◌++◌, IfOk, OnOk, 
 ghost use Rattle.wgsl_error.specs.View.{kind_number, expected_texts};
 ghost use Rattle.wgsl_error.specs.declared.ErrorKind.TheVariants as kinds;
 ghost use Rattle.wgsl_buffers.specs.Answers.{counted, nul_terminated, of_kind, fault_texts, TellsError, TellsTexts};
+ghost use Rattle.wgsl_buffers.specs.Deep.{TellsDeeper};
 
 use crate::answer::{Answer, REFUSED, give, refuse_memory};
+use crate::deep::tell_deeper;
 use std::alloc::{AllocError, Global};
 use wgsl_error::{Error, ErrorKind};
 
@@ -77,15 +79,25 @@ pub fn tell_texts(error: &Error, texts: &str, buffer: &mut [u8], answer: &mut An
     REFUSED
 }
 
-/// Reports an error with its message and what was expected, and returns the status.
-pub fn tell_error(alloc: Global, error: Error, buffer: &mut [u8], answer: &mut Answer) -> u32
+/// Reports an error of a source that may nest a number of levels deep, with its message and what was
+/// expected, and returns the status. An allocation fails where the source nests deeper, too.
+pub fn tell_error(
+    alloc: Global,
+    source: &str,
+    depth: usize,
+    error: Error,
+    buffer: &mut [u8],
+    answer: &mut Answer,
+) -> u32
     ensures refused { result ≡ 1 → TellsError error buffer.old buffer.new answer.new }
     ensures named { result ≡ 1 → ¬ (error.error ≡ kinds.OutOfMemory) }
+    ensures deeper { result ≡ 7 →
+        TellsDeeper depth source.now buffer.old buffer.new answer.new }
     ensures memory { result ≡ 3 → answer.new ≡ counted 0 }
-    ensures status { (result ≡ 1) ⊎ (result ≡ 3) }
+    ensures status { (result ≡ 1) ⊎ ((result ≡ 3) ⊎ (result ≡ 7)) }
 {
     if matches!(error.error, ErrorKind::OutOfMemory) {
-        return refuse_memory(answer);
+        return tell_deeper(alloc, source, depth, buffer, answer);
     }
     let Ok(texts) = texts_of(alloc, &error.error) else {
         return refuse_memory(answer);

@@ -29,9 +29,9 @@ pub fn packed_json()
 /// Printing the packed form of the module that a text is returns what formatting the text returns,
 /// if it returns a text or its length.
 pub fn printed_packed()
-    ensures { (text form before buffer : List ℕ) (answer : Answer) (result : ℕ)
+    ensures { (depth : ℕ) (text form before buffer : List ℕ) (answer : Answer) (result : ℕ)
         → IsUtf8 text → IsPackedOf module_tree (chars text) form → (result ≡ 0) ⊎ (result ≡ 4)
-        → PrintsPacked form before buffer answer result → Formats text before buffer answer result }
+        → PrintsPacked form before buffer answer result → Formats depth text before buffer answer result }
 {}
 
 /// No two trees that texts derive have one packed form, spans included. The span of a declaration

@@ -3,6 +3,7 @@
 
 mod answer;
 mod comments;
+mod deep;
 mod fault;
 mod laws;
 mod lists;
@@ -16,6 +17,7 @@ mod trees;
 
 pub use answer::Answer;
 pub use comments::write_tokens_with_comments;
+pub use deep::DEPTH;
 pub use laws::{packed_forms_differ, packed_json, packed_nodes, printed_packed};
 pub use lists::{Place, begins_with_list, write_lists};
 pub use minified::minify;

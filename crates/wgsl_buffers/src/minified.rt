@@ -13,10 +13,11 @@ ghost use Rattle.wgsl_read_cursor.specs.Places.{StandsWithin};
 ghost use Rattle.wgsl_buffers.specs.Minified.{Minifies, which_of, with_names};
 
 use crate::answer::{Answer, BAD_NAME, DONE, NOT_UTF8, TOO_SMALL, UNKNOWN, give, text_of};
+use crate::deep::rules_for;
 use crate::fault::tell_error;
 use std::alloc::{AllocError, Global};
 use wgsl_error::Error;
-use wgsl_minify::{Minified, MinifyOptions, Which};
+use wgsl_minify::{Minified, MinifyOptions, Which, minify_within};
 use wgsl_name_map::map_text;
 
 /// A minified text, and the JSON of its new names after it.
@@ -47,9 +48,16 @@ fn lines_of<'t>(alloc: Global, text: &'t str) -> Result<Vec<&'t str>, AllocError
     text.lines().collect::<Vec<&str>>(alloc)
 }
 
-/// The minified text of a module, in which the names on these lines stay, and its new names.
+/// The minified text of a module, which may nest a number of levels deep, and in which the names on
+/// these lines stay, and its new names.
 #[tactic(auto, using(crate::proofs::Valid::valid))]
-fn minified(alloc: Global, source: &str, names: Which, keep: &str) -> Result<TextAndNames, Error>
+fn minified(
+    alloc: Global,
+    source: &str,
+    depth: usize,
+    names: Which,
+    keep: &str,
+) -> Result<TextAndNames, Error>
     ensures accepted { IfOk result (λ it. (text : List ℕ) × (table : List (List ℕ × List ℕ))
         × IsMinified (which_view names) (lines keep.now) (chars source.now) table (chars text)
         × (string_bytes it.both ≡ text ++ map_form table) × (it.names ≡ length text)
@@ -60,7 +68,7 @@ fn minified(alloc: Global, source: &str, names: Which, keep: &str) -> Result<Tex
 {
     let keep = lines_of(alloc, keep)?;
     let options = MinifyOptions { names, keep: &keep };
-    let Minified { text, names } = wgsl_minify::minify(alloc, source, options)?;
+    let Minified { text, names } = minify_within(alloc, source, options, rules_for(depth))?;
     let map = map_text(alloc, &names)?;
     let mut both = text;
     let names = both.len();
@@ -96,13 +104,14 @@ fn tell_minified(minified: &TextAndNames, buffer: &mut [u8], answer: &mut Answer
 /// the lines of `keep`.
 pub fn minify(
     alloc: Global,
+    depth: usize,
     names: u32,
     keep: &[u8],
     text: &[u8],
     buffer: &mut [u8],
     answer: &mut Answer,
 ) -> u32
-    ensures { Minifies names keep.now text.now buffer.old buffer.new answer.new result }
+    ensures { Minifies depth names keep.now text.now buffer.old buffer.new answer.new result }
 {
     let Some(source) = text_of(text, answer) else {
         return NOT_UTF8;
@@ -114,8 +123,8 @@ pub fn minify(
     let Ok(keep) = std::str::from_utf8(keep) else {
         return BAD_NAME;
     };
-    match minified(alloc, source, names, keep) {
+    match minified(alloc, source, depth, names, keep) {
         Ok(minified) => tell_minified(&minified, buffer, answer),
-        Err(error) => tell_error(alloc, error, buffer, answer),
+        Err(error) => tell_error(alloc, source, depth, error, buffer, answer),
     }
 }

@@ -31,12 +31,13 @@ fn read_json(alloc: Global, read: Result<Vec<u8>, Error>) -> Result<Vec<u8>, Err
     Ok(json_of(alloc, &form)?)
 }
 
-/// Returns the JSON of the tree that has a number, if one has.
-fn json_tree(alloc: Global, what: u32, source: &str) -> Option<Result<Vec<u8>, Error>>
+/// Returns the JSON of the tree that has a number, if one has, of a text that may nest a number of
+/// levels deep.
+fn json_tree(alloc: Global, depth: usize, what: u32, source: &str) -> Option<Result<Vec<u8>, Error>>
     ensures { MatchOption result (4 < what) (λ read.
         (what ≤ 4) × IsReadTree (tree_of what) source.now read) }
 {
-    match packed_tree(alloc, what, source) {
+    match packed_tree(alloc, depth, what, source) {
         None => None,
         Some(read) => Some(read_json(alloc, read)),
     }
@@ -46,22 +47,23 @@ fn json_tree(alloc: Global, what: u32, source: &str) -> Option<Result<Vec<u8>, E
 /// declaration, 3 for a statement, 4 for an expression.
 pub fn write_tree(
     alloc: Global,
+    depth: usize,
     what: u32,
     text: &[u8],
     buffer: &mut [u8],
     answer: &mut Answer,
 ) -> u32
-    ensures { WritesTree what text.now buffer.old buffer.new answer.new result }
+    ensures { WritesTree depth what text.now buffer.old buffer.new answer.new result }
 {
     let Some(source) = text_of(text, answer) else {
         return NOT_UTF8;
     };
-    match json_tree(alloc, what, source) {
+    match json_tree(alloc, depth, what, source) {
         None => {
             *answer = Answer::of_size(0);
             UNKNOWN
         }
         Some(Ok(json)) => tell_bytes(&json, buffer, answer),
-        Some(Err(error)) => tell_error(alloc, error, buffer, answer),
+        Some(Err(error)) => tell_error(alloc, source, depth, error, buffer, answer),
     }
 }

@@ -5,10 +5,11 @@
 
 ghost use Rattle.wgsl_buffers.specs.Calls.{Formats, Tidies, Checks, WritesSnippet, Recognizes, WritesTree, WritesPackedTree, PrintsPacked, WritesTokens, WritesTokensWithComments, WritesLists, FindsList, MeasuresNesting};
 ghost use Rattle.wgsl_buffers.specs.Layouts.{layout_of};
+ghost use Rattle.wgsl_buffers.specs.declared.deep.TheConstants.{DEPTH};
 ghost use Rattle.wgsl_buffers.specs.Minified.{Minifies};
 
 use std::alloc::Global;
-use wgsl_buffers::{Answer, Choices, Place, PlacedKind};
+use wgsl_buffers::{Answer, Choices, DEPTH, Place, PlacedKind};
 
 /// Writes the canonical text of a module.
 #[unsafe(no_mangle)]
@@ -18,9 +19,23 @@ pub extern "C" fn wgsl_c_format(
     buffer: &mut [u8],
     answer: &mut Answer,
 ) -> u32
-    ensures { Formats text.now buffer.old buffer.new answer.new result }
+    ensures { Formats DEPTH text.now buffer.old buffer.new answer.new result }
 {
-    wgsl_buffers::format(alloc, text, buffer, answer)
+    wgsl_buffers::format(alloc, DEPTH, text, buffer, answer)
+}
+
+/// The same as `wgsl_c_format`, of a text that may nest a number of levels deep.
+#[unsafe(no_mangle)]
+pub extern "C" fn wgsl_c_format_within(
+    alloc: Global,
+    depth: usize,
+    text: &[u8],
+    buffer: &mut [u8],
+    answer: &mut Answer,
+) -> u32
+    ensures { Formats depth text.now buffer.old buffer.new answer.new result }
+{
+    wgsl_buffers::format(alloc, depth, text, buffer, answer)
 }
 
 /// Writes the formatted text of a module, with its comments.
@@ -32,9 +47,24 @@ pub extern "C" fn wgsl_c_tidy(
     buffer: &mut [u8],
     answer: &mut Answer,
 ) -> u32
-    ensures { Tidies (layout_of choices.now) text.now buffer.old buffer.new answer.new result }
+    ensures { Tidies DEPTH (layout_of choices.now) text.now buffer.old buffer.new answer.new result }
 {
-    wgsl_buffers::tidy(alloc, choices, text, buffer, answer)
+    wgsl_buffers::tidy(alloc, DEPTH, choices, text, buffer, answer)
+}
+
+/// The same as `wgsl_c_tidy`, of a text that may nest a number of levels deep.
+#[unsafe(no_mangle)]
+pub extern "C" fn wgsl_c_tidy_within(
+    alloc: Global,
+    depth: usize,
+    choices: &Choices,
+    text: &[u8],
+    buffer: &mut [u8],
+    answer: &mut Answer,
+) -> u32
+    ensures { Tidies depth (layout_of choices.now) text.now buffer.old buffer.new answer.new result }
+{
+    wgsl_buffers::tidy(alloc, depth, choices, text, buffer, answer)
 }
 
 /// Writes the minified text of a module and, after it, the JSON of its new names: with 0 no name
@@ -49,9 +79,25 @@ pub extern "C" fn wgsl_c_minify(
     buffer: &mut [u8],
     answer: &mut Answer,
 ) -> u32
-    ensures { Minifies names keep.now text.now buffer.old buffer.new answer.new result }
+    ensures { Minifies DEPTH names keep.now text.now buffer.old buffer.new answer.new result }
 {
-    wgsl_buffers::minify(alloc, names, keep, text, buffer, answer)
+    wgsl_buffers::minify(alloc, DEPTH, names, keep, text, buffer, answer)
+}
+
+/// The same as `wgsl_c_minify`, of a text that may nest a number of levels deep.
+#[unsafe(no_mangle)]
+pub extern "C" fn wgsl_c_minify_within(
+    alloc: Global,
+    depth: usize,
+    names: u32,
+    keep: &[u8],
+    text: &[u8],
+    buffer: &mut [u8],
+    answer: &mut Answer,
+) -> u32
+    ensures { Minifies depth names keep.now text.now buffer.old buffer.new answer.new result }
+{
+    wgsl_buffers::minify(alloc, depth, names, keep, text, buffer, answer)
 }
 
 /// Checks whether a text is a module.
@@ -62,9 +108,23 @@ pub extern "C" fn wgsl_c_check(
     buffer: &mut [u8],
     answer: &mut Answer,
 ) -> u32
-    ensures { Checks text.now buffer.old buffer.new answer.new result }
+    ensures { Checks DEPTH text.now buffer.old buffer.new answer.new result }
 {
-    wgsl_buffers::check(alloc, text, buffer, answer)
+    wgsl_buffers::check(alloc, DEPTH, text, buffer, answer)
+}
+
+/// The same as `wgsl_c_check`, of a text that may nest a number of levels deep.
+#[unsafe(no_mangle)]
+pub extern "C" fn wgsl_c_check_within(
+    alloc: Global,
+    depth: usize,
+    text: &[u8],
+    buffer: &mut [u8],
+    answer: &mut Answer,
+) -> u32
+    ensures { Checks depth text.now buffer.old buffer.new answer.new result }
+{
+    wgsl_buffers::check(alloc, depth, text, buffer, answer)
 }
 
 /// Checks whether a text is a module, and if it is not, writes its fault with the line in which it
@@ -77,9 +137,24 @@ pub extern "C" fn wgsl_c_snippet(
     buffer: &mut [u8],
     answer: &mut Answer,
 ) -> u32
-    ensures { WritesSnippet name.now text.now buffer.old buffer.new answer.new result }
+    ensures { WritesSnippet DEPTH name.now text.now buffer.old buffer.new answer.new result }
 {
-    wgsl_buffers::write_snippet(alloc, name, text, buffer, answer)
+    wgsl_buffers::write_snippet(alloc, DEPTH, name, text, buffer, answer)
+}
+
+/// The same as `wgsl_c_snippet`, of a text that may nest a number of levels deep.
+#[unsafe(no_mangle)]
+pub extern "C" fn wgsl_c_snippet_within(
+    alloc: Global,
+    depth: usize,
+    name: &[u8],
+    text: &[u8],
+    buffer: &mut [u8],
+    answer: &mut Answer,
+) -> u32
+    ensures { WritesSnippet depth name.now text.now buffer.old buffer.new answer.new result }
+{
+    wgsl_buffers::write_snippet(alloc, depth, name, text, buffer, answer)
 }
 
 /// Checks whether a text is a module of the dialect.
@@ -90,9 +165,23 @@ pub extern "C" fn wgsl_c_recognize(
     buffer: &mut [u8],
     answer: &mut Answer,
 ) -> u32
-    ensures { Recognizes text.now buffer.old buffer.new answer.new result }
+    ensures { Recognizes DEPTH text.now buffer.old buffer.new answer.new result }
 {
-    wgsl_buffers::recognize(alloc, text, buffer, answer)
+    wgsl_buffers::recognize(alloc, DEPTH, text, buffer, answer)
+}
+
+/// The same as `wgsl_c_recognize`, of a text that may nest a number of levels deep.
+#[unsafe(no_mangle)]
+pub extern "C" fn wgsl_c_recognize_within(
+    alloc: Global,
+    depth: usize,
+    text: &[u8],
+    buffer: &mut [u8],
+    answer: &mut Answer,
+) -> u32
+    ensures { Recognizes depth text.now buffer.old buffer.new answer.new result }
+{
+    wgsl_buffers::recognize(alloc, depth, text, buffer, answer)
 }
 
 /// Writes the tree that a text is, as JSON: 0 asks for a module, 1 for a directive, 2 for a
@@ -105,9 +194,24 @@ pub extern "C" fn wgsl_c_tree(
     buffer: &mut [u8],
     answer: &mut Answer,
 ) -> u32
-    ensures { WritesTree what text.now buffer.old buffer.new answer.new result }
+    ensures { WritesTree DEPTH what text.now buffer.old buffer.new answer.new result }
 {
-    wgsl_buffers::write_tree(alloc, what, text, buffer, answer)
+    wgsl_buffers::write_tree(alloc, DEPTH, what, text, buffer, answer)
+}
+
+/// The same as `wgsl_c_tree`, of a text that may nest a number of levels deep.
+#[unsafe(no_mangle)]
+pub extern "C" fn wgsl_c_tree_within(
+    alloc: Global,
+    depth: usize,
+    what: u32,
+    text: &[u8],
+    buffer: &mut [u8],
+    answer: &mut Answer,
+) -> u32
+    ensures { WritesTree depth what text.now buffer.old buffer.new answer.new result }
+{
+    wgsl_buffers::write_tree(alloc, depth, what, text, buffer, answer)
 }
 
 /// Writes the tree that a text is, by its packed form: 0 asks for a module, 1 for a directive, 2
@@ -120,9 +224,24 @@ pub extern "C" fn wgsl_c_packed_tree(
     buffer: &mut [u8],
     answer: &mut Answer,
 ) -> u32
-    ensures { WritesPackedTree what text.now buffer.old buffer.new answer.new result }
+    ensures { WritesPackedTree DEPTH what text.now buffer.old buffer.new answer.new result }
 {
-    wgsl_buffers::write_packed_tree(alloc, what, text, buffer, answer)
+    wgsl_buffers::write_packed_tree(alloc, DEPTH, what, text, buffer, answer)
+}
+
+/// The same as `wgsl_c_packed_tree`, of a text that may nest a number of levels deep.
+#[unsafe(no_mangle)]
+pub extern "C" fn wgsl_c_packed_tree_within(
+    alloc: Global,
+    depth: usize,
+    what: u32,
+    text: &[u8],
+    buffer: &mut [u8],
+    answer: &mut Answer,
+) -> u32
+    ensures { WritesPackedTree depth what text.now buffer.old buffer.new answer.new result }
+{
+    wgsl_buffers::write_packed_tree(alloc, depth, what, text, buffer, answer)
 }
 
 /// Writes the printed text of the node that has a packed form.
