@@ -5,7 +5,9 @@ use crate::ffi::{
     begins_with_list_call, bytes_call, lists_call, nesting_call, tokens_call, Answer, Call, Place,
     PlacedKind, Said,
 };
+use crate::form::Source;
 use crate::kind::TokenKind;
+use crate::packed::from_packed;
 use crate::span::Span;
 use crate::syntax::TranslationUnit;
 
@@ -17,6 +19,32 @@ pub(crate) const REFUSED: u32 = 1;
 
 /// `WGSL_TOO_SMALL` of `wgsl.h`.
 pub(crate) const TOO_SMALL: u32 = 4;
+
+/// `WGSL_TOO_DEEP` of `wgsl.h`.
+pub(crate) const TOO_DEEP: u32 = 7;
+
+/// How many levels deep a text may nest, as [`nesting`] counts them, for the calls that take no other
+/// number: 1 MB of stack is enough for it, and a thread that std starts has 2 MB. Of a text that
+/// nests deeper, the fault is [`TooDeep`](crate::FaultKind::TooDeep), unless one before that place
+/// is found; a few more levels may be accepted. The calls whose names end with `_within` take
+/// another number, for which their thread must have enough stack.
+///
+/// # Examples
+///
+/// ```
+/// use centrelilac::{check, check_within, FaultKind, DEPTH};
+///
+/// let nested = |levels: usize| format!("const a = {}1{};", "(".repeat(levels), ")".repeat(levels));
+/// assert!(check(&nested(DEPTH)).is_ok());
+///
+/// let fault = check(&nested(10 * DEPTH)).unwrap_err();
+/// assert_eq!(fault.kind, FaultKind::TooDeep);
+/// assert_eq!(fault.message, format!("nests deeper than {DEPTH} levels"));
+/// assert_eq!(fault.column, 11 + DEPTH);
+///
+/// assert!(check_within(&nested(2 * DEPTH), 2 * DEPTH).is_ok());
+/// ```
+pub const DEPTH: usize = 200;
 
 /// The least size of a buffer, in which the texts of most faults fit.
 const LEAST_SIZE: usize = 1024;
@@ -71,6 +99,7 @@ fn answered_bytes(call: Call<'_>, text: &str, size: usize) -> Result<(Answer, Ve
     match said.status {
         DONE => Ok((said.answer, bytes)),
         REFUSED => Err(Fault::told(text, &said.answer, &bytes)),
+        TOO_DEEP => Err(Fault::too_deep(text, &said.answer, &bytes)),
         _ => Err(Fault::out_of_memory()),
     }
 }
@@ -95,7 +124,24 @@ pub(crate) fn text_of(call: Call<'_>, text: &str, size: usize) -> Result<String,
 /// # Ok::<(), centrelilac::Fault>(())
 /// ```
 pub fn format(text: &str) -> Result<String, Fault> {
-    text_of(Call::Format, text, text.len() + text.len() / 2)
+    format_within(text, DEPTH)
+}
+
+/// Returns the canonical text of a module as [`format`] does, which may nest a number of levels deep.
+///
+/// # Errors
+///
+/// The fault of the text, or that allocation fails.
+///
+/// # Examples
+///
+/// ```
+/// assert_eq!(centrelilac::format_within("const a=((1));", 2)?, "const a = ((1));\n");
+/// assert!(centrelilac::format_within("const a=(((1)));", 2).is_err());
+/// # Ok::<(), centrelilac::Fault>(())
+/// ```
+pub fn format_within(text: &str, depth: usize) -> Result<String, Fault> {
+    text_of(Call::Format(depth), text, text.len() + text.len() / 2)
 }
 
 /// Checks whether a text is a module.
@@ -112,7 +158,23 @@ pub fn format(text: &str) -> Result<String, Fault> {
 /// assert!(fault.expected.contains(&"=".to_string()));
 /// ```
 pub fn check(text: &str) -> Result<(), Fault> {
-    text_of(Call::Check, text, 0).map(drop)
+    check_within(text, DEPTH)
+}
+
+/// Checks whether a text is a module as [`check`] does, which may nest a number of levels deep.
+///
+/// # Errors
+///
+/// The fault of the text, or that allocation fails.
+///
+/// # Examples
+///
+/// ```
+/// let fault = centrelilac::check_within("const a = (((1)));", 2).unwrap_err();
+/// assert_eq!(fault.to_string(), "line 1, column 13: nests deeper than 2 levels");
+/// ```
+pub fn check_within(text: &str, depth: usize) -> Result<(), Fault> {
+    text_of(Call::Check(depth), text, 0).map(drop)
 }
 
 /// Checks whether a text is a module of a smaller language, the dialect. Its names are identifiers
@@ -131,7 +193,24 @@ pub fn check(text: &str) -> Result<(), Fault> {
 /// assert!(centrelilac::recognize("const a").is_err());
 /// ```
 pub fn recognize(text: &str) -> Result<(), Fault> {
-    text_of(Call::Recognize, text, 0).map(drop)
+    recognize_within(text, DEPTH)
+}
+
+/// Checks whether a text is a module of the dialect as [`recognize`] does, which may nest a number of
+/// levels deep.
+///
+/// # Errors
+///
+/// The fault of the text, or that allocation fails.
+///
+/// # Examples
+///
+/// ```
+/// assert!(centrelilac::recognize_within("const a = ((1));", 2).is_ok());
+/// assert!(centrelilac::recognize_within("const a = ((1));", 1).is_err());
+/// ```
+pub fn recognize_within(text: &str, depth: usize) -> Result<(), Fault> {
+    text_of(Call::Recognize(depth), text, 0).map(drop)
 }
 
 /// Reads the tree of a module. A directive, a declaration, a statement or an expression is read by
@@ -155,6 +234,28 @@ pub fn recognize(text: &str) -> Result<(), Fault> {
 /// ```
 pub fn parse(text: &str) -> Result<TranslationUnit, Fault> {
     text.parse()
+}
+
+/// Reads a tree, of a module or of another kind, as [`parse`] and `str::parse` do, of a text that may
+/// nest a number of levels deep.
+///
+/// # Errors
+///
+/// The fault of the text, or that allocation fails.
+///
+/// # Examples
+///
+/// ```
+/// use centrelilac::syntax::Expression;
+/// use centrelilac::{parse_within, FaultKind};
+///
+/// assert!(parse_within::<Expression>("f(-a)", 2).is_ok());
+/// let fault = parse_within::<Expression>("f(-a)", 1).unwrap_err();
+/// assert_eq!((fault.kind, fault.span.range()), (FaultKind::TooDeep, 2..3));
+/// ```
+pub fn parse_within<T: Source>(text: &str, depth: usize) -> Result<T, Fault> {
+    let form = packed_form_of(T::NUMBER, text, depth)?;
+    Ok(from_packed(&form).expect("the library writes the packed form of its trees"))
 }
 
 /// A token or a comment of a text: what it is, and where it is, in bytes.
@@ -313,8 +414,9 @@ pub fn begins_with_template_list(text: &str) -> Result<bool, Fault> {
 /// open at one place of a text, up to its first invalid token.
 ///
 /// Reading a text takes stack for each: in the library at most 2,800 bytes, in
-/// [`minify`](crate::minify) 3,800, and in [`tidy`](crate::tidy) 1,900. This call takes no such
-/// stack, nor does [printing a tree](crate::syntax#printing).
+/// [`minify`](crate::minify) 3,800, and in [`tidy`](crate::tidy) 1,900. So a text may nest up to
+/// [`DEPTH`] levels deep. This call takes no such stack, nor does
+/// [printing a tree](crate::syntax#printing).
 ///
 /// # Errors
 ///
@@ -339,20 +441,17 @@ fn number(said: Said) -> Result<usize, Fault> {
 }
 
 /// The JSON of the tree with a number.
-pub(crate) fn form_of(what: u32, text: &str) -> Result<String, Fault> {
-    text_of(Call::Tree(what), text, text.len() * 32)
+pub(crate) fn form_of(what: u32, text: &str, depth: usize) -> Result<String, Fault> {
+    text_of(Call::Tree(depth, what), text, text.len() * 32)
 }
 
 /// How many bytes a packed form has at most for a byte of its text: `!` has 26 of them.
 pub(crate) const PACKED: usize = 28;
 
 /// The packed form of the tree with a number.
-pub(crate) fn packed_form_of(what: u32, text: &str) -> Result<Vec<u8>, Fault> {
-    let packed = answered_bytes(
-        Call::PackedTree(what),
-        text,
-        text.len().saturating_mul(PACKED),
-    );
+pub(crate) fn packed_form_of(what: u32, text: &str, depth: usize) -> Result<Vec<u8>, Fault> {
+    let call = Call::PackedTree(depth, what);
+    let packed = answered_bytes(call, text, text.len().saturating_mul(PACKED));
     packed.map(|(_, form)| form)
 }
 

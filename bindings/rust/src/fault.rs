@@ -29,6 +29,8 @@ pub enum FaultKind {
     Attribute,
     /// A `var` template whose arguments do not fit.
     VarTemplate,
+    /// The text nests too deep, at the first token with which it does.
+    TooDeep,
     /// An allocation failed.
     OutOfMemory,
 }
@@ -88,6 +90,15 @@ pub struct Fault {
 impl Fault {
     /// Returns the fault that an answer reports of a text, by its texts: each ends with a byte 0.
     pub(crate) fn told(text: &str, answer: &Answer, texts: &[u8]) -> Fault {
+        Fault::of_kind(FaultKind::from_number(answer.kind), text, answer, texts)
+    }
+
+    /// Returns the fault of a text that nests too deep, by the same.
+    pub(crate) fn too_deep(text: &str, answer: &Answer, texts: &[u8]) -> Fault {
+        Fault::of_kind(FaultKind::TooDeep, text, answer, texts)
+    }
+
+    fn of_kind(kind: FaultKind, text: &str, answer: &Answer, texts: &[u8]) -> Fault {
         let mut texts = texts
             .split(|byte| *byte == 0)
             .map(|text| String::from_utf8_lossy(text).into_owned());
@@ -95,7 +106,7 @@ impl Fault {
         let expected: Vec<_> = texts.take(answer.expected).collect();
         let place = LineIndex::new(text).position(answer.start);
         Fault {
-            kind: FaultKind::from_number(answer.kind),
+            kind,
             span: Span::new(answer.start..answer.end),
             line: place.line,
             column: place.column,

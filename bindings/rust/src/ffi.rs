@@ -3,8 +3,9 @@
 //! What a call requires, as `wgsl.h` says, is what Rust's references give: memory that can be read
 //! or written, is apart and stays as it is for the call. Of the stack, each level of nesting
 //! takes at most 3,800 bytes as measured, and no function takes a page at once, as
-//! tools/library_tests checks: so a text which nests too deep reaches the guard page at the end of
-//! the stack, as a recursion of Rust's does, and ends the process.
+//! tools/library_tests checks: so a text which nests too deep for the stack, where a caller lets it
+//! nest so deep, reaches the guard page at the end of the stack, as a recursion of Rust's does, and
+//! ends the process.
 
 /// The result of a call beside its status: `struct wgsl_answer` of `wgsl.h`.
 #[repr(C)]
@@ -60,14 +61,16 @@ pub struct Choices {
 
 // The exports of the crate `wgsl_c`, of which a slice is a pointer and a length here.
 extern "C" {
-    fn wgsl_c_format(
+    fn wgsl_c_format_within(
+        depth: usize,
         text: *const u8,
         size: usize,
         room: *mut u8,
         room_size: usize,
         answer: *mut Answer,
     ) -> u32;
-    fn wgsl_c_tidy(
+    fn wgsl_c_tidy_within(
+        depth: usize,
         choices: *const Choices,
         text: *const u8,
         size: usize,
@@ -75,7 +78,8 @@ extern "C" {
         room_size: usize,
         answer: *mut Answer,
     ) -> u32;
-    fn wgsl_c_minify(
+    fn wgsl_c_minify_within(
+        depth: usize,
         names: u32,
         keep: *const u8,
         keep_size: usize,
@@ -85,7 +89,8 @@ extern "C" {
         room_size: usize,
         answer: *mut Answer,
     ) -> u32;
-    fn wgsl_c_check(
+    fn wgsl_c_check_within(
+        depth: usize,
         text: *const u8,
         size: usize,
         room: *mut u8,
@@ -102,14 +107,16 @@ extern "C" {
         room_size: usize,
         answer: *mut Answer,
     ) -> u32;
-    fn wgsl_c_recognize(
+    fn wgsl_c_recognize_within(
+        depth: usize,
         text: *const u8,
         size: usize,
         room: *mut u8,
         room_size: usize,
         answer: *mut Answer,
     ) -> u32;
-    fn wgsl_c_tree(
+    fn wgsl_c_tree_within(
+        depth: usize,
         what: u32,
         text: *const u8,
         size: usize,
@@ -117,7 +124,8 @@ extern "C" {
         room_size: usize,
         answer: *mut Answer,
     ) -> u32;
-    fn wgsl_c_packed_tree(
+    fn wgsl_c_packed_tree_within(
+        depth: usize,
         what: u32,
         text: *const u8,
         size: usize,
@@ -166,24 +174,25 @@ pub struct Said {
     pub answer: Answer,
 }
 
-/// A call that reads bytes and writes others.
+/// A call that reads bytes and writes others. The first number is how many levels deep a text may
+/// nest.
 #[derive(Clone, Copy, Debug)]
 pub enum Call<'k> {
     /// The printed text.
-    Format,
+    Format(usize),
     /// The formatted text, by a layout.
-    Tidy(Choices),
+    Tidy(usize, Choices),
     /// The minified text and its new names, by the number of the names that get new ones and the
     /// lines of those that stay.
-    Minify(u32, &'k str),
+    Minify(usize, u32, &'k str),
     /// Whether it is a module.
-    Check,
+    Check(usize),
     /// Whether it is a module of the dialect.
-    Recognize,
+    Recognize(usize),
     /// The JSON of the tree with this number.
-    Tree(u32),
+    Tree(usize, u32),
     /// The packed form of the tree with this number.
-    PackedTree(u32),
+    PackedTree(usize, u32),
     /// The printed text of a packed form.
     Print,
 }
@@ -202,17 +211,32 @@ pub fn bytes_call(call: Call<'_>, text: &[u8], room: &mut Vec<u8>) -> Said {
     // else but stack, as said above, does not read the buffer, and writes nowhere else.
     let status = unsafe {
         match call {
-            Call::Format => wgsl_c_format(at, size, to, room_size, &mut answer),
-            Call::Tidy(by) => wgsl_c_tidy(&by, at, size, to, room_size, &mut answer),
-            Call::Minify(names, keep) => {
-                let (kept, kept_size) = (keep.as_ptr(), keep.len());
-                wgsl_c_minify(names, kept, kept_size, at, size, to, room_size, &mut answer)
+            Call::Format(depth) => {
+                wgsl_c_format_within(depth, at, size, to, room_size, &mut answer)
             }
-            Call::Check => wgsl_c_check(at, size, to, room_size, &mut answer),
-            Call::Recognize => wgsl_c_recognize(at, size, to, room_size, &mut answer),
-            Call::Tree(what) => wgsl_c_tree(what, at, size, to, room_size, &mut answer),
-            Call::PackedTree(what) => {
-                wgsl_c_packed_tree(what, at, size, to, room_size, &mut answer)
+            Call::Tidy(depth, by) => {
+                wgsl_c_tidy_within(depth, &by, at, size, to, room_size, &mut answer)
+            }
+            Call::Minify(depth, names, keep) => wgsl_c_minify_within(
+                depth,
+                names,
+                keep.as_ptr(),
+                keep.len(),
+                at,
+                size,
+                to,
+                room_size,
+                &mut answer,
+            ),
+            Call::Check(depth) => wgsl_c_check_within(depth, at, size, to, room_size, &mut answer),
+            Call::Recognize(depth) => {
+                wgsl_c_recognize_within(depth, at, size, to, room_size, &mut answer)
+            }
+            Call::Tree(depth, what) => {
+                wgsl_c_tree_within(depth, what, at, size, to, room_size, &mut answer)
+            }
+            Call::PackedTree(depth, what) => {
+                wgsl_c_packed_tree_within(depth, what, at, size, to, room_size, &mut answer)
             }
             Call::Print => wgsl_c_print(at, size, to, room_size, &mut answer),
         }

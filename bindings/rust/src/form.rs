@@ -11,7 +11,7 @@
 //! # Ok::<(), centrelilac::Fault>(())
 //! ```
 
-use crate::calls::form_of;
+use crate::calls::{form_of, DEPTH};
 use crate::fault::Fault;
 use crate::nested::Coded;
 use crate::packed::Unpacked;
@@ -54,5 +54,24 @@ pub(crate) mod sealed {
 /// # Ok::<(), centrelilac::Fault>(())
 /// ```
 pub fn text_form<T: Source>(text: &str) -> Result<String, Fault> {
-    form_of(T::NUMBER, text)
+    text_form_within::<T>(text, DEPTH)
+}
+
+/// Returns the JSON of the tree that a text is, which may nest a number of levels deep.
+///
+/// # Errors
+///
+/// The fault of the text, or that allocation fails.
+///
+/// # Examples
+///
+/// ```
+/// use centrelilac::form::text_form_within;
+/// use centrelilac::syntax::Expression;
+///
+/// assert!(text_form_within::<Expression>("a[(b)]", 2).is_ok());
+/// assert!(text_form_within::<Expression>("a[(b)]", 1).is_err());
+/// ```
+pub fn text_form_within<T: Source>(text: &str, depth: usize) -> Result<String, Fault> {
+    form_of(T::NUMBER, text, depth)
 }

@@ -1,6 +1,6 @@
 //! That the numbers here are those of `wgsl.h`.
 
-use crate::calls::{DONE, REFUSED, TOO_SMALL};
+use crate::calls::{DEPTH, DONE, REFUSED, TOO_DEEP, TOO_SMALL};
 use crate::fault::FaultKind;
 use crate::form::sealed::Numbered;
 use crate::minified::Names;
@@ -52,6 +52,7 @@ fn statuses_and_faults_have_the_numbers_of_the_header() {
         ("DONE", DONE),
         ("REFUSED", REFUSED),
         ("TOO_SMALL", TOO_SMALL),
+        ("TOO_DEEP", TOO_DEEP),
     ] {
         assert!(statuses.contains(&(name, number as usize)), "{name}");
     }
@@ -62,4 +63,9 @@ fn statuses_and_faults_have_the_numbers_of_the_header() {
         .map(|(_, it)| it)
         .collect();
     assert_eq!(faults, FaultKind::NUMBERED.map(|(number, _)| number));
+}
+
+#[test]
+fn texts_may_nest_as_deep_as_the_header_says() {
+    assert!(HEADER.contains(&format!("\n#define WGSL_DEPTH {DEPTH}\n")));
 }

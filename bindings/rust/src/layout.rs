@@ -1,6 +1,6 @@
 //! Modules formatted with their comments, by a layout that is chosen.
 
-use crate::calls::text_of;
+use crate::calls::{text_of, DEPTH};
 use crate::fault::Fault;
 use crate::ffi::{Call, Choices};
 
@@ -113,6 +113,27 @@ pub fn tidy(text: &str) -> Result<String, Fault> {
 /// # Ok::<(), centrelilac::Fault>(())
 /// ```
 pub fn tidy_with(text: &str, layout: Layout) -> Result<String, Fault> {
-    let call = Call::Tidy(layout.choices());
+    tidy_within(text, layout, DEPTH)
+}
+
+/// Returns the formatted text of a module as [`tidy_with`] does, which may nest a number of levels
+/// deep.
+///
+/// # Errors
+///
+/// The fault of the text, or that allocation fails.
+///
+/// # Examples
+///
+/// ```
+/// use centrelilac::{tidy_within, FaultKind, Layout};
+///
+/// let text = format!("const a = {}1{};", "(".repeat(99), ")".repeat(99));
+/// assert!(tidy_within(&text, Layout::default(), 99).is_ok());
+/// let fault = tidy_within(&text, Layout::default(), 9).unwrap_err();
+/// assert_eq!((fault.kind, fault.span.range()), (FaultKind::TooDeep, 19..20));
+/// ```
+pub fn tidy_within(text: &str, layout: Layout, depth: usize) -> Result<String, Fault> {
+    let call = Call::Tidy(depth, layout.choices());
     text_of(call, text, text.len() + text.len() / 2)
 }

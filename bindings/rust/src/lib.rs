@@ -25,8 +25,9 @@
 //! [`visit`] walks over them, [`LineIndex`] finds lines and columns, and [`form`] has them
 //! as JSON.
 //!
-//! What nests takes stack when the library reads it: [`nesting`] returns how deep a text nests, and
-//! [`parse`] may take a megabyte more. A tree of any depth is printed with at most a megabyte of
+//! What nests takes stack when the library reads it, so a text may nest up to [`DEPTH`] levels deep,
+//! or as many as a call takes whose name ends with `_within`, and what nests deeper is a fault
+//! ([`FaultKind::TooDeep`]); 1 MB of stack is enough. [`nesting`] returns how deep a text nests. A tree of any depth is printed with at most a megabyte of
 //! stack, and dropped, copied, compared and hashed with little; walks and `{:?}` take stack for
 //! each level. All calls may be made from any thread, at the same time too.
 #![deny(unsafe_code, missing_docs)]
@@ -52,14 +53,15 @@ pub mod visit;
 mod words;
 
 pub use calls::{
-    begins_with_template_list, check, format, nesting, parse, recognize, template_lists, tokens,
-    tokens_before_fault, tokens_with_comments, Token,
+    begins_with_template_list, check, check_within, format, format_within, nesting, parse,
+    parse_within, recognize, recognize_within, template_lists, tokens, tokens_before_fault,
+    tokens_with_comments, Token, DEPTH,
 };
 pub use fault::{Fault, Fault as Error, FaultKind};
 pub use kind::TokenKind;
-pub use layout::{tidy, tidy_with, Indent, Layout, Newlines};
+pub use layout::{tidy, tidy_with, tidy_within, Indent, Layout, Newlines};
 pub use lines::{LineIndex, Position};
-pub use minified::{minify, Minified, MinifyOptions, Names};
+pub use minified::{minify, minify_within, Minified, MinifyOptions, Names};
 pub use parser::{parse_str, recognize_str};
 pub use syntax::SyntaxNode;
 

@@ -1,6 +1,6 @@
 //! Modules minified, with shorter names.
 
-use crate::calls::answered;
+use crate::calls::{answered, DEPTH};
 use crate::fault::Fault;
 use crate::ffi::Call;
 
@@ -76,8 +76,32 @@ pub struct Minified {
 /// # Ok::<(), centrelilac::Fault>(())
 /// ```
 pub fn minify(text: &str, options: &MinifyOptions<'_>) -> Result<Minified, Fault> {
+    minify_within(text, options, DEPTH)
+}
+
+/// Minifies a module as [`minify`] does, which may nest a number of levels deep.
+///
+/// # Errors
+///
+/// The fault of the text, or that allocation fails.
+///
+/// # Examples
+///
+/// ```
+/// use centrelilac::{minify_within, MinifyOptions};
+///
+/// let options = MinifyOptions::default();
+/// assert_eq!(minify_within("const a = ((1));", &options, 2)?.text, "const a=((1));");
+/// assert!(minify_within("const a = (((1)));", &options, 2).is_err());
+/// # Ok::<(), centrelilac::Fault>(())
+/// ```
+pub fn minify_within(
+    text: &str,
+    options: &MinifyOptions<'_>,
+    depth: usize,
+) -> Result<Minified, Fault> {
     let keep = lines_of(options.keep);
-    let call = Call::Minify(options.names as u32, &keep);
+    let call = Call::Minify(depth, options.names as u32, &keep);
     let (answer, mut text) = answered(call, text, text.len())?;
     let map = text.split_off(answer.start);
     let names = names_of(&map);

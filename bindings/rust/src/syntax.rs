@@ -65,12 +65,11 @@
 //! [`DiagnosticAttribute`], [`InterpolateAttribute`], [`WorkgroupSizeAttribute`] and
 //! [`CustomAttribute`] are printed as an [`Attribute`] only.
 
-use crate::calls::packed_form_of;
+use crate::calls::{parse_within, DEPTH};
 use crate::fault::Fault;
 use crate::form::sealed::Numbered;
 use crate::form::Source;
 use crate::nested::{Code, Coded, Copies};
-use crate::packed::from_packed;
 use crate::visit::{Accept, Visit, VisitMut, Walk};
 use std::str::FromStr;
 
@@ -135,12 +134,6 @@ pub type ConstAssertStatement = ConstAssert;
 /// A declaration of a value as a statement.
 pub type DeclarationStatement = Declaration;
 
-/// The tree that a text is.
-fn tree_of<T: Source>(text: &str) -> Result<T, Fault> {
-    let form = packed_form_of(T::NUMBER, text)?;
-    Ok(from_packed(&form).expect("the library writes the packed form of its trees"))
-}
-
 /// What is read from a text, with its number in `wgsl.h`.
 macro_rules! sources {
     ($($name:ident = $number:literal,)*) => {$(
@@ -154,7 +147,7 @@ macro_rules! sources {
             type Err = Fault;
 
             fn from_str(text: &str) -> Result<Self, Fault> {
-                tree_of(text)
+                parse_within(text, DEPTH)
             }
         }
     )*};

@@ -1,5 +1,6 @@
 //! Trees that nest deeply: made by hand and read from texts, with a small stack.
 
+use centrelilac::parse_within;
 use centrelilac::span::equal_with_spans;
 use centrelilac::syntax::*;
 use std::collections::hash_map::DefaultHasher;
@@ -152,12 +153,77 @@ fn deep_texts_are_read_and_printed() {
             [&open.repeat(levels), inside, &close.repeat(levels)].concat()
         };
         let text = nested("(", "a", ")", 10_000);
-        let parentheses: Expression = text.parse().expect("an expression");
+        let parentheses: Expression = parse_within(&text, 10_000).expect("an expression");
         assert!(parentheses.to_string() == text);
         let blocks = nested("if a {", "", "}", 10_000);
-        assert!(blocks.parse::<Statement>().is_ok());
+        assert!(parse_within::<Statement>(&blocks, 10_000).is_ok());
         // the print of each level is indented
-        let blocks: Statement = nested("if a {", "", "}", 500).parse().expect("a statement");
-        assert!(blocks.to_string().parse() == Ok(blocks));
+        let blocks = nested("if a {", "", "}", 500);
+        let blocks: Statement = parse_within(&blocks, 500).expect("a statement");
+        assert!(parse_within(&blocks.to_string(), 500) == Ok(blocks));
+    });
+}
+
+/// Checks that each call reads what nests so deep on a thread with a megabyte of stack.
+fn read_all_kinds(levels: usize) {
+    for (open, inside, close) in [
+        ("(", "a", ")"),
+        ("a[", "b", "]"),
+        ("!", "a", ""),
+        ("a<", "b", ">"),
+    ] {
+        let text = [&open.repeat(levels), inside, &close.repeat(levels)].concat();
+        assert!(text.parse::<Expression>().is_ok());
+        read_module(&format!("const a = {text};"));
+    }
+    for open in ["{", "if a {", "loop {", "while a {"] {
+        let levels = levels - 1;
+        read_module(&format!(
+            "fn f() {{{}{}}}",
+            open.repeat(levels),
+            "}".repeat(levels)
+        ));
+    }
+}
+
+/// Makes each call over a module.
+fn read_module(text: &str) {
+    assert_eq!(centrelilac::check(text), Ok(()));
+    assert!(centrelilac::recognize(text).is_ok());
+    assert!(centrelilac::format(text).is_ok());
+    assert!(centrelilac::tidy(text).is_ok());
+    assert!(centrelilac::minify(text, &Default::default()).is_ok());
+    assert!(centrelilac::parse(text).is_ok());
+    assert!(centrelilac::form::text_form::<TranslationUnit>(text).is_ok());
+}
+
+#[test]
+fn texts_that_are_not_too_deep_take_a_megabyte_of_stack() {
+    with_stack(1 << 10, || read_all_kinds(centrelilac::DEPTH));
+}
+
+/// Each call returns a fault of what nests deeper, with its place.
+#[test]
+fn texts_that_are_too_deep_are_faults() {
+    with_stack(1 << 10, || {
+        let text = format!("const a = {}1{};", "(".repeat(LEVELS), ")".repeat(LEVELS));
+        let options = centrelilac::MinifyOptions::default();
+        let faults = [
+            centrelilac::check(&text).unwrap_err(),
+            centrelilac::recognize(&text).unwrap_err(),
+            centrelilac::format(&text).unwrap_err(),
+            centrelilac::tidy(&text).unwrap_err(),
+            centrelilac::minify(&text, &options).unwrap_err(),
+            centrelilac::parse(&text).unwrap_err(),
+            text.parse::<GlobalDeclaration>().unwrap_err(),
+        ];
+        for fault in faults {
+            assert_eq!(fault.kind, centrelilac::FaultKind::TooDeep);
+            assert_eq!(fault.span, Span::new(210..211));
+            assert_eq!(
+                fault.to_string(),
+                "line 1, column 211: nests deeper than 200 levels"
+            );
+        }
     });
 }

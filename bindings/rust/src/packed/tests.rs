@@ -49,7 +49,7 @@ fn check<T: Form + Packed + Unpacked>(tree: &T) {
 
 /// Checks the tree of a text: that its packed form is that which the library writes.
 fn check_text<T: Source + Packed>(text: &str) {
-    let packed = calls::packed_form_of(T::NUMBER, text).expect(text);
+    let packed = calls::packed_form_of(T::NUMBER, text, calls::DEPTH).expect(text);
     let tree: T = from_packed(&packed).expect(text);
     assert!(with_spans(&tree) == packed, "{text}");
     check(&tree);
@@ -99,7 +99,8 @@ fn packed_forms_fit_the_first_buffer() {
     for (before, part, after, closing) in DENSE {
         let (parts, closing) = (part.repeat(TIMES), closing.repeat(TIMES));
         let text = [before, &parts, after, &closing, ";"].concat();
-        let form = calls::packed_form_of(TranslationUnit::NUMBER, &text).expect(&text);
+        let form = calls::packed_form_of(TranslationUnit::NUMBER, &text, calls::DEPTH);
+        let form = form.expect(&text);
         assert!(form.len() <= calls::PACKED * text.len(), "{text}");
     }
 }
