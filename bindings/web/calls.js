@@ -1,6 +1,6 @@
 // The calls of the library, over strings.
 
-import { REFUSED, number, withStack, written } from './engine.js';
+import { REFUSED, TOO_DEEP, number, withStack, written } from './engine.js';
 import { WgslError } from './error.js';
 import { KINDS } from './kinds.js';
 import { Source, textOf } from './text.js';
@@ -32,15 +32,16 @@ const PLACE = 4;
 /** The fault that a call returned of a text, by its texts, after each of which is a byte 0. */
 function faultOf(source, said, texts = textOf(said.bytes)) {
   const [message, ...more] = texts.split('\0');
-  const place = { start: source.unit(said.start), end: source.unit(said.end) };
-  const expected = more.slice(0, said.expected);
-  return WgslError.numbered(said.kind, message, { source: source.text, ...place, expected });
+  const span = { start: source.unit(said.start), end: source.unit(said.end) };
+  const place = { source: source.text, ...span, expected: more.slice(0, said.expected) };
+  if (said.status === TOO_DEEP) return new WgslError('TooDeep', message, place);
+  return WgslError.numbered(said.kind, message, place);
 }
 
 /** What a call on a text that writes bytes returns; a fault is thrown. */
 function returned(name, source, room, before) {
   const said = written(name, source.bytes, Math.max(LEAST_ROOM, room), { before });
-  if (said.status === REFUSED) throw faultOf(source, said);
+  if (said.status === REFUSED || said.status === TOO_DEEP) throw faultOf(source, said);
   return said;
 }
 

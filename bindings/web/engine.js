@@ -7,6 +7,7 @@ const DONE = 0;
 const REFUSED = 1;
 const OUT_OF_MEMORY = 3;
 const TOO_SMALL = 4;
+const TOO_DEEP = 7;
 
 /** How many bytes a number has that the library writes, of which 32 bits suffice. */
 const NUMBER = 8;
@@ -163,4 +164,4 @@ export function number(name, bytes) {
   });
 }
 
-export { DONE, REFUSED };
+export { DONE, REFUSED, TOO_DEEP };

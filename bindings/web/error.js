@@ -37,18 +37,20 @@ function lineAndColumn(text, place) {
 
 /**
  * An error of a text: a fault, by one of the kinds of the library; `LoneSurrogate`; `TooDeep`, if
- * it nests too deep for the stack; or `OutOfMemory`. The last two have no place.
+ * it nests too deep; or `OutOfMemory`. The last has no place, nor has `TooDeep` if the stack ended.
  */
 export class WgslError extends Error {
   #alone;
   #source;
 
   /** Makes an error of a message without what was expected. */
-  constructor(kind, alone, { source = '', start = 0, end = 0, expected = [] } = {}) {
+  constructor(kind, alone, place) {
+    const { source = '', start = 0, end = 0, expected = [] } = place ?? {};
     super(alone + namedOf(expected));
     this.name = 'WgslError';
     this.kind = kind;
     this.expected = expected;
+    this.hasPlace = place !== undefined;
     this.start = start;
     this.end = end;
     Object.assign(this, lineAndColumn(source, start));
@@ -63,11 +65,6 @@ export class WgslError extends Error {
     return new WgslError(KINDS[number], alone, place);
   }
 
-  /** Whether it has a place in its text. */
-  get #hasPlace() {
-    return this.kind !== 'OutOfMemory' && this.kind !== 'TooDeep';
-  }
-
   /** The line in which it starts, and below that a mark for each of its characters there. */
   #markedLine() {
     const [source, start] = [this.#source, this.start];
@@ -80,7 +77,7 @@ export class WgslError extends Error {
 
   /** Writes it as compilers do: `NAME:LINE:COLUMN: error: MESSAGE`, the line, marks below it. */
   inFile(name) {
-    if (!this.#hasPlace) return `${name}: error: ${this.#alone}`;
+    if (!this.hasPlace) return `${name}: error: ${this.#alone}`;
     const place = `${name}:${this.line}:${this.column}`;
     return `${place}: error: ${this.#alone}\n${this.#markedLine()}`;
   }

@@ -66,9 +66,9 @@ export type ErrorKind =
   | 'VarTemplate'
   /** A string with half of a surrogate pair, which has no UTF-8. */
   | 'LoneSurrogate'
-  /** A text that nests too deep for the stack of the engine. It has no place. */
+  /** A text that nests too deep; without a place, if the stack of the engine ends before that. */
   | 'TooDeep'
-  /** It has no place either. */
+  /** It has no place. */
   | 'OutOfMemory';
 
 /** What is wrong with a text. */
@@ -76,6 +76,8 @@ export class WgslError extends Error implements Span {
   readonly kind: ErrorKind;
   /** What could be there, if a token or the end is unexpected. */
   readonly expected: string[];
+  /** Whether it is at a place of the text. */
+  readonly hasPlace: boolean;
   /** Where it is, in UTF-16 units; if the text ends too early, `end` may be one after its end. */
   readonly start: number;
   readonly end: number;

@@ -5,9 +5,6 @@ import { init, check, format, minify, parse, tidy, WgslError } from '../module/i
 import { childrenOf, rowOf } from './tree_rows.js';
 import { TokenList } from './token_list.js';
 
-/** The kinds of errors that are nowhere in the text. */
-const WITHOUT_PLACE = new Set(['OutOfMemory', 'TooDeep']);
-
 const encoder = new TextEncoder();
 const kept = { source: '', tree: null, tokens: null };
 
@@ -69,8 +66,8 @@ function faultOf(call) {
     return null;
   } catch (error) {
     if (!(error instanceof WgslError)) throw error;
-    const { kind, message, start, end, line, column } = error;
-    const place = WITHOUT_PLACE.has(kind) ? null : { start, end, line, column };
+    const { message, hasPlace, start, end, line, column } = error;
+    const place = hasPlace ? { start, end, line, column } : null;
     return { message, place };
   }
 }

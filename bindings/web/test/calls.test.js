@@ -145,8 +145,10 @@ test('a text that nests too deep is an error, and the next call works', () => {
   const deep = `const a = ${'('.repeat(200_000)}1${')'.repeat(200_000)};`;
   for (const call of ['check', 'tidy', 'format', 'minify', 'parse']) {
     const error = thrown(() => wgsl[call](deep));
-    assert.deepEqual([error.kind, error.message], ['TooDeep', 'the text nests too deep'], call);
-    assert.equal(error.inFile('d'), 'd: error: the text nests too deep');
+    assert.deepEqual([error.kind, error.message], ['TooDeep', 'nests deeper than 200 levels'], call);
+    assert.deepEqual([error.start, error.end, error.column], [210, 211, 211], call);
+    const lines = `${deep}\n${' '.repeat(210)}^`;
+    assert.equal(error.inFile('d'), `d:1:211: error: nests deeper than 200 levels\n${lines}`);
     assert.equal(wgsl.format('const a=1;'), 'const a = 1;\n');
   }
   assert.equal(wgsl.nesting(deep), 200_000);

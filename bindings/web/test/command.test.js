@@ -125,8 +125,10 @@ test('a filter names a fault by line and column', () => {
 });
 
 test('a text that nests too deep has the status of memory', () => {
-  const errors = '<stdin>: error: the text nests too deep\n';
-  const found = ended(['check'], `const a = ${'('.repeat(100_000)}`);
+  const text = `const a = ${'('.repeat(300)}`;
+  const lines = `${text}\n${' '.repeat(210)}^\n`;
+  const errors = `<stdin>:1:211: error: nests deeper than 200 levels\n${lines}`;
+  const found = ended(['check'], text);
   assert.deepEqual(found, { status: 5, output: '', errors });
 });
 
