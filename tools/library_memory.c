@@ -2,7 +2,8 @@
    second, and so on, and exits with the line of the first check that fails, or 0. Each call has to
    report out of memory or return what it returns undisturbed, to free all it allocated, and to
    make a request on some text. The texts are those below and those of tests/texts.txt; wgsl_print
-   has the packed forms of their trees and those of library_forms.h. It is run at the top of the
+   has the packed forms of their trees and those of library_forms.h, and a text that nests too deep
+   is its own. It is run at the top of the
    repository, and linked with --wrap of malloc, realloc and free. */
 #include <stdio.h>
 #include <stdlib.h>
@@ -47,8 +48,11 @@ struct said {
 };
 
 enum { FORMAT, TIDIED, CHECKED, SNIPPET, IN_FILE, RECOGNIZED, TOKENS, COMMENTS, LISTS, BEGINS };
-enum { NESTING = BEGINS + 1, MINIFIED, PRINTED, TREES };
+enum { NESTING = BEGINS + 1, MINIFIED, PRINTED, DEEP, DEEP_IN_FILE, DEEP_SNIPPET, TREES };
 enum { PACKED = TREES + WGSL_EXPRESSION + 1, CALLS = PACKED + WGSL_EXPRESSION + 1 };
+
+/* A text that nests too deep where two levels are accepted. */
+static const char deep[] = "const a = -((((((((((((((((((((((((((((1))))))))))))))))))))))))))));";
 
 /* Makes a call; those from TREES on ask for the kinds of trees, one after another, and those from
    PACKED on for their packed forms. PRINTED has a packed form in place of a text. */
@@ -86,6 +90,14 @@ static uint32_t make(int call, const char *text, size_t size, struct said *said)
                            &said->answer);
     case PRINTED:
         return wgsl_print((const uint8_t *)text, size, buffer, buffer_size, &said->answer);
+    case DEEP:
+        return wgsl_tidy_within(2, NULL, deep, strlen(deep), buffer, buffer_size, &said->answer);
+    case DEEP_IN_FILE:
+        return wgsl_snippet_within(2, "f.wgsl", 6, deep, strlen(deep), buffer, buffer_size,
+                                   &said->answer);
+    case DEEP_SNIPPET:
+        return wgsl_snippet_within(2, NULL, 0, deep, strlen(deep), buffer, buffer_size,
+                                   &said->answer);
     default:
         break;
     }
@@ -132,7 +144,8 @@ static int check_call(int call, const char *text, size_t size) {
     static const struct wgsl_answer nothing;
     size_t which, count;
     ask(call, text, size, SIZE_MAX, &undisturbed);
-    CHECK(undisturbed.status <= WGSL_REFUSED && blocks == 0);
+    CHECK(undisturbed.status <= WGSL_REFUSED || undisturbed.status == WGSL_TOO_DEEP);
+    CHECK(blocks == 0);
     count = requests;
     refusals[call] += count;
     for (which = 0; which < count; which++) {
