@@ -15,7 +15,7 @@ use Rattle.wgsl_format.specs.Deeper.{NestsDeeper}
 -- it is in the text
 pub deeper_within : (depth : ℕ) (text : List ℕ) (span : Span) → IsUtf8 text
     → NestsDeeper depth (chars text) (span_view span) → StandsWithin span (length text)
-deeper_within depth text span valid (ts, e, list, before, following, t, split, same, rest) =
+deeper_within depth text span valid (ts, e, list, (before, following, t, split, same, up, over)) =
     let size = width (chars text) in
     let o = one_in_order 0 size before following t
         (subst (λ z. AreInOrder 0 z size) split (tokens_in_order (chars text) ts e list)) in

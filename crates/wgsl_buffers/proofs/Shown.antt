@@ -34,12 +34,11 @@ follows source lines span are =
     ∙ drop-append_seam (codes "error: " ++ codes "invalid token") (after source span)
 
 -- what follows it also follows another message
-pub other_message : (message source lines place text : List ℕ) (span : Span)
+pub other_message : (message source lines place : List ℕ) (span : Span)
     → lines ≡ snippet (codes "invalid token") source span → place ≡ drop 20 lines
-    → text ≡ codes "error: " ++ (message ++ (place ++ codes "\0"))
-    → text ≡ nul_terminated (snippet message source span)
-other_message message source lines place text span are rest is =
-    is ∙ ap (λ (p : List ℕ). codes "error: " ++ (message ++ (p ++ codes "\0"))) (rest ∙ follows source lines span are)
+    → codes "error: " ++ (message ++ (place ++ codes "\0")) ≡ nul_terminated (snippet message source span)
+other_message message source lines place span are rest =
+    ap (λ (p : List ℕ). codes "error: " ++ (message ++ (p ++ codes "\0"))) (rest ∙ follows source lines span are)
     ∙ regrouped_end (codes "error: ") message (after source span) (codes "\0")
     ∙ ap (λ (s : List ℕ). s ++ codes "\0") (sym (lines_are message source span))
   where

@@ -5,6 +5,7 @@ ghost use Rattle.std.specs.Cow.{cow_str_bytes};
 ghost use Rattle.wgsl_error.specs.declared.ErrorKind.TheVariants as kinds;
 ghost use Rattle.wgsl_error.specs.Places.{message_in_file};
 ghost use Rattle.wgsl_error.specs.Printing.{print_message};
+ghost use Rattle.wgsl_model.specs.Faults.Snippets.{snippet};
 ghost use Rattle.wgsl_span.specs.View.{span_view};
 ghost use Rattle.wgsl_buffers.specs.Answers.{counted, nul_terminated, error_lines, TellsTexts};
 ghost use Rattle.wgsl_buffers.specs.Calls.{WritesSnippet};
@@ -50,6 +51,28 @@ fn lines_of(alloc: Global, name: &str, error: &ErrorWithSource) -> Result<String
     lines_in_file(alloc, name, error.source.as_str(), &error.error)
 }
 
+/// Returns the lines that show a message at a span of a source, with a byte 0 after them.
+fn lines_in_text(
+    alloc: Global,
+    source: &str,
+    message: &str,
+    span: Span,
+) -> Result<String, AllocError>
+    ensures { IfOk result (λ lines. string_bytes lines ≡ nul_terminated
+        (snippet message.now (chars source.now) (span_view span))) }
+{
+    // What follows the message of an error is that of each message at its span.
+    let invalid = Error {
+        error: ErrorKind::InvalidToken,
+        span,
+    };
+    let lines = invalid
+        .with_source(CowStr::Borrowed(source))
+        .to_string(alloc)?;
+    let place = &lines[INVALID.len()..];
+    format!(in alloc; "error: {message}{place}\0")
+}
+
 /// Returns the lines that show a message at a span of a source, in a file with a name if that is not
 /// empty, with a byte 0 after them.
 fn lines_of_message(
@@ -71,16 +94,7 @@ fn lines_of_message(
         };
         return format!(in alloc; "{shown}\0");
     }
-    // What follows the message of an error is that of each message at its span.
-    let invalid = Error {
-        error: ErrorKind::InvalidToken,
-        span,
-    };
-    let lines = invalid
-        .with_source(CowStr::Borrowed(source))
-        .to_string(alloc)?;
-    let place = &lines[INVALID.len()..];
-    format!(in alloc; "error: {message}{place}\0")
+    lines_in_text(alloc, source, message, span)
 }
 
 /// Returns the lines that show that a text nests deeper than a number of levels at a span, in a file
