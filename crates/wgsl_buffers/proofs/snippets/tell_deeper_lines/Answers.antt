@@ -16,7 +16,7 @@ returns-clause-deeper c seven =
     let three = c.in-Ok-Some.span-is in
     let found : c.in-Ok-Some.field-0 ≡ Some span = cc in
     let nests = subst (λ (m : Option Span). IfSome m (λ s. NestsDeeper c.args.depth (chars c.args.source.now)
-        (span_view s))) found c.in-Ok-Some.ensures in
+    (span_view s))) found c.in-Ok-Some.ensures in
     let told = c.as_str.ensures.value ∙ c.in-Ok.ensures in (
       span,
       nests,
