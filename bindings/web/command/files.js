@@ -1,6 +1,15 @@
 // The texts that a command reads and writes.
 
-import { readFile, readdir, realpath, rename, rm, stat, writeFile } from 'node:fs/promises';
+import {
+  appendFile,
+  readFile,
+  readdir,
+  realpath,
+  rename,
+  rm,
+  stat,
+  writeFile,
+} from 'node:fs/promises';
 import { join } from 'node:path';
 import { WgslError } from '../node.js';
 import { FAILED, REFUSED, TOO_LARGE } from './status.js';
@@ -66,10 +75,18 @@ async function replaceFile(path, text) {
   }
 }
 
-/** Writes a text to a file, also to a new one. */
+/** Whether a path leads to something that is no regular file, or to what the process has open. */
+async function isStream(path) {
+  if (path === '/dev/stderr' || /^\/(dev|proc\/self)\/fd\//.test(path)) return true;
+  const found = await stat(path).catch(() => undefined);
+  return found !== undefined && !found.isFile();
+}
+
+/** Writes a text to a file, also to a new one; what is no regular file is not replaced. */
 export async function writeText(path, text) {
   try {
-    await replaceFile(path, text);
+    if (await isStream(path)) await appendFile(path, text);
+    else await replaceFile(path, text);
   } catch (error) {
     if (error.code !== 'ENOENT') throw failed(path, error);
     await writeFile(path, text).catch((other) => {

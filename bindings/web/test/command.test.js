@@ -134,7 +134,8 @@ test('a text that nests too deep has the status of memory', () => {
 
 test('wrong arguments are named', () => {
   const wrong = [['tidy', '--chekc'], ['tidy', '--width', 'x'], ['tidy', '--width'],
-    ['tidy', '--newlines=cr'], ['min', 'a', 'b'], ['min', '--names=some'], ['check', '--check']];
+    ['tidy', '--newlines=cr'], ['min', 'a', 'b'], ['min', '--names=some'], ['min', '--map=-'],
+    ['min', 'a', '--map', 'a'], ['min', '--map=a', '-o', 'a'], ['check', '--check']];
   for (const args of wrong) {
     const { status, output, errors } = ended(args);
     assert.deepEqual([status, output], [2, ''], args.join(' '));

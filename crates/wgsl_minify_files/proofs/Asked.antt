@@ -1,13 +1,13 @@
 -- What arguments ask for, by what `clap` makes of them.
-use Rattle.std.proofs.Common.{◌≡◌, ◌∙◌, ap, inl, inr, refl, subst, sym, ℕ, true, List, [], ◌∷◌, Option, Some, Result, Err, codes, flat_map}
+use Rattle.std.proofs.Common.{◌≡◌, ◌∙◌, ap, inl, inr, refl, subst, sym, ℕ, true, List, [], ◌∷◌, Option, Some, option_map, Result, Err, codes, flat_map}
 use Rattle.std.specs.List.{slice_split}
 use Rattle.std.specs.Option.{option_copied, unwrap_or}
 use Rattle.clap.specs.Words.{App, HasKind, Row, Kinds, IsAmong, kind_of, all_of, fault_of, first_of, is_simple, is_simple_and_free, matches_of}
 use Rattle.clap.specs.declared.error.Error.{Error}
 use Rattle.clap.specs.declared.error.kind.ErrorKind.{ErrorKind}
 use Rattle.wgsl_minify_names.specs.View.{texts, which_view}
-use Rattle.wgsl_minify_files.specs.Options.{Options, command, asked, asked_by, asked_with, with_own_map, is_comma, path_of, which_of}
-use Rattle.wgsl_minify_files.specs.View.{Gives, options_view}
+use Rattle.wgsl_minify_files.specs.Options.{Options, Target, command, asked, asked_by, asked_with, with_own_map, is_comma, output_of, path_of, target_of, which_of}
+use Rattle.wgsl_minify_files.specs.View.{Gives, options_view, target_view}
 use Rattle.wgsl_minify_files.specs.declared.options.Options as declared
 
 -- the words mean what `clap`'s definitions say
@@ -49,12 +49,12 @@ module _ (words : List (List ℕ)) (rows : List Row) (none : fault_of command wo
   pub asked_options : (options : declared.Options)
       → which_of (first_of (codes "names") rows) ≡ Some (which_view options.names)
       → option_copied options.input ≡ path_of (first_of (codes "FILE") rows)
-      → option_copied options.output ≡ path_of (first_of (codes "output") rows)
-      → option_copied options.map ≡ first_of (codes "map") rows
+      → target_view options.output ≡ output_of (first_of (codes "output") rows)
+      → option_map target_view options.map ≡ option_map target_of (first_of (codes "map") rows)
       → texts options.keep.items ≡ flat_map (slice_split is_comma) (unwrap_or (all_of (codes "keep") rows) [])
       → asked words ≡ with_own_map (options_view options)
   asked_options options names input output map keep =
-      let made : Option (List ℕ) → Option (List ℕ) → Option (List ℕ) → List (List ℕ) → Result Options Kinds =
+      let made : Option (List ℕ) → Target → Option Target → List (List ℕ) → Result Options Kinds =
       λ i o m k. with_own_map (record {
         input = i;
         output = o;
@@ -62,8 +62,11 @@ module _ (words : List (List ℕ)) (rows : List Row) (none : fault_of command wo
         which = which_view options.names;
         keep = k;
       }) in
+      let file = path_of (first_of (codes "FILE") rows) in
+      let text = output_of (first_of (codes "output") rows) in
+      let new_names = option_map target_of (first_of (codes "map") rows) in
       asked_rows ∙ ap (λ which. asked_with which rows) names
-      ∙ sym (ap (λ i. made i (option_copied options.output) (option_copied options.map) (texts options.keep.items)) input
-      ∙ ap (λ o. made (path_of (first_of (codes "FILE") rows)) o (option_copied options.map) (texts options.keep.items)) output
-      ∙ ap (λ m. made (path_of (first_of (codes "FILE") rows)) (path_of (first_of (codes "output") rows)) m (texts options.keep.items)) map
-      ∙ ap (made (path_of (first_of (codes "FILE") rows)) (path_of (first_of (codes "output") rows)) (first_of (codes "map") rows)) keep)
+      ∙ sym (ap (λ i. made i (target_view options.output) (option_map target_view options.map) (texts options.keep.items)) input
+      ∙ ap (λ o. made file o (option_map target_view options.map) (texts options.keep.items)) output
+      ∙ ap (λ m. made file text m (texts options.keep.items)) map
+      ∙ ap (made file text new_names) keep)

@@ -1,5 +1,5 @@
 -- What arguments ask for.
-use Rattle.std.specs.Prelude.{ℕ, ◌==◌, Bool, true, false, ◌||◌, List, [], ◌∷◌, Option, Some, None, Result, Ok, Err, codes, flat_map, if◌then◌else◌}
+use Rattle.std.specs.Prelude.{ℕ, ◌==◌, Bool, true, false, ◌||◌, List, [], ◌∷◌, Option, Some, None, option_map, Result, Ok, Err, codes, flat_map, if◌then◌else◌}
 use Rattle.std.specs.List.{slice_split}
 use Rattle.std.specs.Option.{unwrap_or}
 use Rattle.std.specs.Str.{bytes_eq}
@@ -26,13 +26,17 @@ command = with_rule (with_rule (with_rule (with_rule (with_rule program (new_rul
     (record (setting (codes "output")) { short = Some 111 })) (setting (codes "names")))
     (record (setting (codes "keep")) { action = Some Append })) (setting (codes "map"))
 
--- what is asked for: where the module is and where its text is written, a path or with none the
--- standard input and output; the path for the new names, if they are asked for; which names get new
--- ones, and which stay
+-- where a text is written: to the standard output, or to the file at a path
+pub data Target : Type 0 where
+  to_stream : Target
+  to_file : List ℕ → Target
+
+-- what is asked for: where the module is, a path or with none the standard input; where its text is
+-- written; where the new names are, if they are asked for; which names get new ones, and which stay
 pub record Options : Type 0 where
   pub input : Option (List ℕ)
-  pub output : Option (List ℕ)
-  pub map : Option (List ℕ)
+  pub output : Target
+  pub map : Option Target
   pub which : Which
   pub keep : List (List ℕ)
 
@@ -40,6 +44,17 @@ pub record Options : Type 0 where
 abbrev pub path_of : Option (List ℕ) → Option (List ℕ)
 path_of None = None
 path_of (Some text) = if bytes_eq text (codes "-") then None else Some text
+
+-- `-` and `/dev/stdout` are the standard output
+abbrev pub target_of : List ℕ → Target
+target_of text = if bytes_eq text (codes "-") then to_stream
+    else if bytes_eq text (codes "/dev/stdout") then to_stream
+    else to_file text
+
+-- where the text is written: to the standard output, if no place is given
+abbrev pub output_of : Option (List ℕ) → Target
+output_of None = to_stream
+output_of (Some text) = target_of text
 
 -- the names that get new ones, for a value of `--names`
 abbrev pub which_of : Option (List ℕ) → Option Which
@@ -56,23 +71,29 @@ is_comma c = c == 44
 abbrev pub options_of : List Row → Which → Options
 options_of rows which = record {
   input = path_of (first_of (codes "FILE") rows);
-  output = path_of (first_of (codes "output") rows);
-  map = first_of (codes "map") rows;
+  output = output_of (first_of (codes "output") rows);
+  map = option_map target_of (first_of (codes "map") rows);
   which = which;
   keep = flat_map (slice_split is_comma) (unwrap_or (all_of (codes "keep") rows) []);
 }
 
--- a path is this one
-abbrev pub is_at : List ℕ → Option (List ℕ) → Bool
-is_at path None = false
-is_at path (Some other) = bytes_eq path other
+-- two places are one
+abbrev pub is_target : Target → Target → Bool
+is_target to_stream to_stream = true
+is_target (to_file path) (to_file other) = bytes_eq path other
+is_target target other = false
 
--- a path for the new names is `-`, or that of the module or of its text
-abbrev pub is_taken : Option (List ℕ) → Option (List ℕ) → Option (List ℕ) → Bool
-is_taken None input output = false
-is_taken (Some path) input output = bytes_eq path (codes "-") || (is_at path input || is_at path output)
+-- a place is the file at a path
+abbrev pub is_source : Target → Option (List ℕ) → Bool
+is_source target None = false
+is_source target (Some path) = is_target target (to_file path)
 
--- what is asked for, where the new names have a path of their own
+-- the place of the new names is that of the module or of its text
+abbrev pub is_taken : Option Target → Option (List ℕ) → Target → Bool
+is_taken None input text = false
+is_taken (Some map) input text = is_target map text || is_source map input
+
+-- what is asked for, where the new names have a place of their own
 abbrev pub with_own_map : Options → Result Options Kinds
 with_own_map options =
     if is_taken options.map options.input options.output then Err (ArgumentConflict ∷ []) else Ok options

@@ -9,8 +9,9 @@ use Rattle.wgsl_minify.specs.Modules.{IsMinified}
 use Rattle.wgsl_name_map.specs.Maps.{map_form}
 use Rattle.wgsl_program.specs.World.{World, Says}
 use Rattle.wgsl_minify_files.specs.Failures.{message_of, code_of_failure, IsFailed, IsFailedFor, IsRefusal, Refuses}
-use Rattle.wgsl_minify_files.specs.Options.{Options}
+use Rattle.wgsl_minify_files.specs.Options.{Options, Target, to_stream, to_file}
 use Rattle.wgsl_minify_files.specs.declared.failure.Failure.{Failure}
+use Rattle.wgsl_minify_files.specs.declared.failure.Failure.TheVariants.{OutOfMemory}
 
 -- the name of the file at a path in messages
 abbrev pub name_of : Option (List ℕ) → List ℕ
@@ -32,18 +33,12 @@ pub record IsMinifiedText (options : Options) (source : List ℕ) (table : List 
 abbrev pub map_file : List (List ℕ × List ℕ) → List ℕ
 map_file table = map_form table ++ codes "\n"
 
--- the file at the path has this text now, and nothing else changes; with no path nothing does
-abbrev pub IsSaved : Option (List ℕ) → List ℕ → Files → Files → Type 0
-IsSaved None text old new = new ≡ old
-IsSaved (Some path) text old new = Replaced old new path text
-
--- the module was read and minified, and the new names were written; this is the text
-pub record IsPrepared (options : Options) (old new : Files) (left rest : Option (List ℕ)) (text : List ℕ) : Type 0 where
+-- the module was read and minified; these are its new names and its text
+pub record IsPrepared (options : Options) (files : Files) (left rest : Option (List ℕ))
+    (table : List (List ℕ × List ℕ)) (text : List ℕ) : Type 0 where
   pub source : List ℕ
-  pub table : List (List ℕ × List ℕ)
-  pub read : IsSource options.input old left rest source
+  pub read : IsSource options.input files left rest source
   pub minified : IsMinifiedText options source table text
-  pub saved : IsSaved options.map (map_file table) old new
 
 -- the file at the path could not be read since it is not there, or with no path the standard input
 -- could not, unless an allocation failed
@@ -51,41 +46,53 @@ abbrev pub IsUnread : Option (List ℕ) → Files → Failure → Type 0
 IsUnread None files failure = IsFailed (name_of None) failure
 IsUnread (Some path) files failure = IsFailedFor (HasNone files path) path failure
 
--- the file at the path could not be written, and contracts do not know what the files hold, unless
--- an allocation failed
-abbrev pub IsUnwritten : List ℕ → Files → Failure → Type 0
-IsUnwritten path files failure = IsFailedFor (files.known ≡ false) path failure
-
--- why nothing is written: the module could not be read, or it is refused, or its new names could
--- not be written
+-- why nothing is written: the module could not be read, or it is refused
 pub data Stops (options : Options) (files : Files) (left rest : Option (List ℕ)) (failure : Failure) : Type 0 where
   unread : IsUnread options.input files failure → Stops options files left rest failure
   refused : (source : List ℕ) → IsSource options.input files left rest source
       → IsRefusal (Refuses (name_of options.input) source) failure → Stops options files left rest failure
-  unsaved : (path : List ℕ) → options.map ≡ Some path → IsUnwritten path files failure
-      → Stops options files left rest failure
 
--- the text is the file at the path, or with no path it is written to the output
-abbrev pub IsWritten : Option (List ℕ) → List ℕ → Files → World → World → ℕ → Type 0
-IsWritten None text between old new status =
-    Says text 0 old.output new.output status × (new.files ≡ between)
-IsWritten (Some path) text between old new status =
-    (status ≡ 0) × Replaced between new.files path text × (new.output ≡ old.output)
+-- a text is not written to its place: the file could not be written, and contracts do not know what
+-- the files hold, or an allocation failed
+abbrev pub IsUnwritten : Target → Files → Failure → Type 0
+IsUnwritten to_stream files failure = failure ≡ OutOfMemory
+IsUnwritten (to_file path) files failure = IsFailedFor (files.known ≡ false) path failure
 
--- a failure is reported, and nothing is written to the output
+-- a failure is reported, and nothing else happens
 pub record Reports (failure : Failure) (old new : World) (status : ℕ) : Type 0 where
   pub says : Says (message_of failure) (code_of_failure failure) old.errors new.errors status
   pub output : new.output ≡ old.output
+  pub files : Same old.files new.files
 
--- What a run comes to. The minified text is written, after the new names. Or nothing is, and this is
--- reported. Or the new names are, but then the file of the text could not be.
+-- What comes of a text to write. It is written to the standard output, or what of it can be. Or it
+-- is put into the file. Or it is not written, and this is reported.
+pub data Writes (target : Target) (text : List ℕ) (old new : World) (status : ℕ) : Type 0 where
+  shown : target ≡ to_stream → Says text 0 old.output new.output status → new.files ≡ old.files
+      → new.errors ≡ old.errors → Writes target text old new status
+  saved : (path : List ℕ) → target ≡ to_file path → Replaced old.files new.files path text
+      → new.output ≡ old.output → new.errors ≡ old.errors → status ≡ 0 → Writes target text old new status
+  failed : (failure : Failure) → IsUnwritten target old.files failure → Reports failure old new status
+      → Writes target text old new status
+
+-- the new names are written, if they are asked for
+abbrev pub Saves : Option Target → List ℕ → World → World → ℕ → Type 0
+Saves None text old new status =
+    (new.files ≡ old.files) × (new.output ≡ old.output) × (new.errors ≡ old.errors) × (status ≡ 0)
+Saves (Some target) text old new status = Writes target text old new status
+
+-- the new names are written, if they are asked for, and then the text, unless the names are not
+pub data Delivers (options : Options) (table : List (List ℕ × List ℕ)) (text : List ℕ) (old new : World)
+    (status : ℕ) : Type 0 where
+  both : (between : World) → Saves options.map (map_file table) old between 0
+      → Writes options.output text between new status → Delivers options table text old new status
+  without_text : Saves options.map (map_file table) old new status → ¬ (status ≡ 0)
+      → Delivers options table text old new status
+
+-- What a run comes to. The module is read and minified, and the new names and the text are written.
+-- Or nothing is written, and this is reported.
 pub data IsRun (options : Options) (old new : World) (status : ℕ) : Type 0 where
-  minified : (between : Files) (text : List ℕ) → IsPrepared options old.files between old.left new.left text
-      → IsWritten options.output text between old new status → new.errors ≡ old.errors
+  minified : (table : List (List ℕ × List ℕ)) (text : List ℕ)
+      → IsPrepared options old.files old.left new.left table text → Delivers options table text old new status
       → IsRun options old new status
   stopped : (failure : Failure) → Stops options old.files old.left new.left failure
-      → Reports failure old new status → Same old.files new.files → IsRun options old new status
-  unwritten : (between : Files) (text path : List ℕ) (failure : Failure)
-      → IsPrepared options old.files between old.left new.left text → options.output ≡ Some path
-      → IsUnwritten path between failure → Reports failure old new status → Same between new.files
-      → IsRun options old new status
+      → Reports failure old new status → IsRun options old new status

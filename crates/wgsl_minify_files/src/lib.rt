@@ -2,10 +2,13 @@
 #![tactic(auto)]
 
 mod failure;
+mod host;
 mod minified;
 mod options;
 mod program;
 mod run;
+mod written;
 
-pub use options::{Options, read_options};
+pub use host::HostOutputs;
+pub use options::{Options, Target, read_options};
 pub use program::{refuse_argument, refuse_memory, start};

@@ -6,22 +6,31 @@ ghost use Rattle.std.specs.Option.{option_copied, unwrap_or};
 ghost use Rattle.clap.specs.Words.{app_of, rule_of};
 ghost use Rattle.wgsl_minify_names.specs.View.{texts, which_view};
 ghost use Rattle.wgsl_minify_files.specs.Options as plain;
-ghost use Rattle.wgsl_minify_files.specs.View.{options_view, Gives};
+ghost use Rattle.wgsl_minify_files.specs.View.{options_view, target_view, Gives};
 
 use clap::error::ErrorKind;
 use clap::{Arg, ArgAction, Command, Error};
 use std::alloc::{AllocError, Global};
 use wgsl_minify::Which;
 
+/// Where a text is written.
+#[derive(Clone, Copy, Debug, PartialEq, Eq)]
+pub enum Target<'a> {
+    /// To the standard output.
+    Output,
+    /// To the file at a path.
+    File(&'a str),
+}
+
 /// The request of arguments.
 #[derive(Debug, Drop)]
 pub struct Options<'a> {
     /// The path of the module. With `None` it is read from the standard input.
     pub input: Option<&'a str>,
-    /// The path for the minified text. With `None` it is written to the standard output.
-    pub output: Option<&'a str>,
-    /// The path for the JSON of the new names. With `None` they are not written.
-    pub map: Option<&'a str>,
+    /// Where the minified text is written.
+    pub output: Target<'a>,
+    /// Where the JSON of the new names is written. With `None` it is not.
+    pub map: Option<Target<'a>>,
     pub names: Which,
     pub keep: Vec<&'a str>,
 }
@@ -39,15 +48,16 @@ pub fn read_options<'a>(alloc: Global, arguments: &'a [String]) -> Result<Option
     let keep = kept_names(alloc, matches.get_strs("keep"))?;
     let options = Options {
         input: path_of(matches.get_str("FILE")),
-        output: path_of(matches.get_str("output")),
-        map: matches.get_str("map"),
+        output: output_of(matches.get_str("output")),
+        map: map_of(matches.get_str("map")),
         names,
         keep,
     };
     with_own_map(&mut command, options)
 }
 
-/// What is asked for, where the new names have a path of their own.
+/// What is asked for, where the new names are written to another place than that of the module and
+/// of its text.
 fn with_own_map<'a>(command: &mut Command<'_>, options: Options<'a>) -> Result<Options<'a>, Error>
     ensures { Gives (plain.with_own_map (options_view options.entry)) result }
 {
@@ -60,8 +70,9 @@ fn with_own_map<'a>(command: &mut Command<'_>, options: Options<'a>) -> Result<O
 /// What is wrong with another value of `--names`.
 const WRONG_NAMES: &str = "option '--names' takes none, locals or all";
 
-/// What is wrong with `--map -`, or with a path of `--map` that is another's.
-const WRONG_MAP: &str = "option '--map' takes a path of its own, not '-'";
+/// What is wrong with a place of `--map` that is that of the module or of its text.
+const WRONG_MAP: &str =
+    "option '--map' takes a file of its own, or with '--output' the standard output";
 
 /// The end of the text of `--help`.
 const AFTER_HELP: &str = "\
@@ -151,23 +162,65 @@ fn path_of(value: Option<&str>) -> Option<&str>
     }
 }
 
-/// Whether a path for the new names is `-`, or that of the module or of its text.
-fn is_taken(map: Option<&str>, input: Option<&str>, output: Option<&str>) -> bool
-    ensures { result ≡ plain.is_taken (option_copied map.entry)
-        (option_copied input.entry) (option_copied output.entry) }
+/// Where a value has a text written: `-` and `/dev/stdout` are the standard output.
+fn target_of(value: &str) -> Target<'_>
+    ensures { target_view result ≡ plain.target_of value.now }
+{
+    match value {
+        "-" | "/dev/stdout" => Target::Output,
+        _ => Target::File(value),
+    }
+}
+
+/// Where the minified text is written: to the standard output, if no place is given.
+fn output_of(value: Option<&str>) -> Target<'_>
+    ensures { target_view result ≡ plain.output_of (option_copied value.entry) }
+{
+    match value {
+        Some(value) => target_of(value),
+        None => Target::Output,
+    }
+}
+
+/// Where the new names are written, if a place is given.
+fn map_of(value: Option<&str>) -> Option<Target<'_>>
+    ensures { option_map target_view result
+        ≡ option_map plain.target_of (option_copied value.entry) }
+{
+    match value {
+        Some(value) => Some(target_of(value)),
+        None => None,
+    }
+}
+
+/// Whether the new names are written where the module is, or where its text is written.
+fn is_taken(map: Option<Target<'_>>, input: Option<&str>, output: Target<'_>) -> bool
+    ensures { result ≡ plain.is_taken (option_map target_view map.entry)
+        (option_copied input.entry) (target_view output.entry) }
 {
     match map {
-        Some(path) => path == "-" || is_at(path, input) || is_at(path, output),
+        Some(map) => is_target(map, output) || is_source(map, input),
         None => false,
     }
 }
 
-/// Whether a path is this one.
-fn is_at(path: &str, other: Option<&str>) -> bool
-    ensures { result ≡ plain.is_at path.now (option_copied other.entry) }
+/// Whether two places are one.
+fn is_target(target: Target<'_>, other: Target<'_>) -> bool
+    ensures { result ≡ plain.is_target (target_view target.entry) (target_view other.entry) }
 {
-    match other {
-        Some(other) => path == other,
+    match (target, other) {
+        (Target::Output, Target::Output) => true,
+        (Target::File(path), Target::File(other)) => path == other,
+        (Target::Output, Target::File(_)) | (Target::File(_), Target::Output) => false,
+    }
+}
+
+/// Whether a place is the file at a path, if there is one.
+fn is_source(target: Target<'_>, path: Option<&str>) -> bool
+    ensures { result ≡ plain.is_source (target_view target.entry) (option_copied path.entry) }
+{
+    match path {
+        Some(path) => is_target(target, Target::File(path)),
         None => false,
     }
 }

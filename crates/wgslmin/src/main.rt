@@ -4,7 +4,7 @@
 use std::io::ErrorKind;
 use std::process::ExitCode;
 use wgsl_files::HostStore;
-use wgsl_minify_files::{refuse_argument, refuse_memory, start};
+use wgsl_minify_files::{HostOutputs, refuse_argument, refuse_memory, start};
 
 fn main(rt: HostRuntime) -> ExitCode {
     let alloc = rt.alloc();
@@ -21,7 +21,9 @@ fn main(rt: HostRuntime) -> ExitCode {
     ExitCode::from(start(
         alloc,
         arguments.as_slice(),
-        &mut HostStore { rt: &rt },
+        &mut HostOutputs {
+            files: HostStore { rt: &rt },
+        },
         &mut rt.stdin(),
         &mut rt.stdout(),
         &mut rt.stderr(),

@@ -6,7 +6,7 @@ use Rattle.clap.proofs.WalkLemmas.{first_value-rows, raw_values-rows}
 use Rattle.clap.specs.Words.{App, app_of, fault_of, found_of, matches_of, rows_of, is_simple, is_simple_and_free}
 use Rattle.clap.specs.declared.error.kind.ErrorKind.TheVariants.{InvalidValue}
 use Rattle.wgsl_minify_names.specs.View.{which_view}
-use Rattle.wgsl_minify_files.specs.Options.{asked_with, is_comma, path_of, which_of}
+use Rattle.wgsl_minify_files.specs.Options.{asked_with, is_comma, output_of, path_of, target_of, which_of}
 use Rattle.wgsl_minify_files.specs.View.{Gives}
 use Rattle.wgsl_minify_files.proofs.Asked.{is_plain, is_free, gives_error, asked_options, asked_rows}
 use Rattle.wgsl_minify_files.proofs.options.read_options.Goals as goal
@@ -47,15 +47,15 @@ returns c =
     ((c.in_ok-matches.ensures.ok.2 (ap is_simple is ∙ is_plain)).0 ∙ ap (λ (a : App). matches_of a words) is)
     (record {
       input = c.path_of.result;
-      output = c.path_of-2.result;
-      map = c.get_str-4.result;
+      output = c.output_of.result;
+      map = c.map_of.result;
       names = c.in-Some.names;
       keep = c.in_ok-keep.keep;
     })
     (sym (c.which_of.ensures ∙ ap which_of (c.get_str.ensures ∙ first_value-rows found (codes "names")))
     ∙ ap (option_map which_view) c.in-Some.is)
     (c.path_of.ensures ∙ ap path_of (c.get_str-2.ensures ∙ first_value-rows found (codes "FILE")))
-    (c.path_of-2.ensures ∙ ap path_of (c.get_str-3.ensures ∙ first_value-rows found (codes "output")))
-    (c.get_str-4.ensures ∙ first_value-rows found (codes "map"))
+    (c.output_of.ensures ∙ ap output_of (c.get_str-3.ensures ∙ first_value-rows found (codes "output")))
+    (c.map_of.ensures ∙ ap (option_map target_of) (c.get_str-4.ensures ∙ first_value-rows found (codes "map")))
     (c.in_ok-keep.ensures ∙ ap (λ (lists : Option (List (List ℕ))). flat_map (slice_split is_comma) (unwrap_or lists []))
     (c.get_strs.ensures ∙ raw_values-rows found (codes "keep"))))) c.with_own_map.ensures
