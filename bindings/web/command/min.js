@@ -1,9 +1,9 @@
 // `centrelilac min`: minifies a module.
 
-import { minify } from '../node.js';
+import { minify, tokens } from '../node.js';
 import { WrongArguments, oneOf, readArguments } from './arguments.js';
 import { STDIN, FileError, readText, refused, writeText } from './files.js';
-import { SUCCESS } from './status.js';
+import { SUCCESS, WRONG_ARGUMENTS } from './status.js';
 
 export const HELP = `\
 Usage: centrelilac min [OPTIONS] [FILE]
@@ -39,6 +39,16 @@ function minified(text, name, options) {
   }
 }
 
+/** Throws for a name to keep that is nowhere in a module. */
+function checkKept(text, name, keep) {
+  const names = tokens(text).filter(({ kind }) => kind === 'Ident');
+  const found = new Set(names.map(({ start, end }) => text.slice(start, end)));
+  const wrong = keep.find((kept) => !found.has(kept));
+  if (wrong === undefined) return;
+  const message = `${name}: error: option '--keep' takes names of the module, not \`${wrong}\``;
+  throw new FileError(WRONG_ARGUMENTS, message);
+}
+
 /** The names of the standard output. */
 const STDOUT = ['-', '/dev/stdout'];
 
@@ -56,7 +66,9 @@ async function writeOutput(path, text) {
 async function minifyFile(path, { output, map, names, keep }) {
   const name = path === STDIN ? '<stdin>' : path;
   const text = await readText(path, name);
-  const made = minified(text, name, { names, keep: keep.flatMap((list) => list.split(',')) });
+  const kept = keep.flatMap((list) => list.split(','));
+  const made = minified(text, name, { names, keep: kept });
+  checkKept(text, name, kept);
   if (map !== undefined) await writeOutput(map, `${JSON.stringify(made.names)}\n`);
   await writeOutput(output, made.text);
 }

@@ -15,7 +15,7 @@ use Rattle.wgsl_files.specs.declared.status.Status.TheVariants as status
 use Rattle.wgsl_files.specs.declared.store.StoreError.{StoreError}
 use Rattle.wgsl_files.specs.declared.store.StoreError.TheVariants as store
 use Rattle.wgsl_model.specs.Program.{IsFaultOf}
-use Rattle.wgsl_minify_files.specs.Failures.{IsFailed, IsFailedFor, IsNotUtf8, IsRefusal, IsRefusedFor, Refuses, Refuses.named, Refuses.undecoded, Refuses.too_deep, IsTooDeep, IsToldDeeper, levels}
+use Rattle.wgsl_minify_files.specs.Failures.{IsFailed, IsFailedFor, IsNotUtf8, IsRefusal, IsRefusedFor, LacksName, Refuses, Refuses.lacking, Refuses.named, Refuses.undecoded, Refuses.too_deep, IsTooDeep, IsToldDeeper, levels}
 use Rattle.wgsl_minify_files.specs.declared.failure.Failure.{Failure}
 use Rattle.wgsl_minify_files.specs.declared.failure.Failure.TheVariants.{Refused, Failed, OutOfMemory}
 
@@ -47,24 +47,31 @@ pub deep_told : (name source told message : List ℕ) → IsDeeperInFile levels 
 deep_told name source told message deep ends = (told, deep, ends)
 
 -- bytes that are no text are refused
-pub refused_undecoded : (name bytes : List ℕ) (failure : Failure) → is_utf8 bytes ≡ false
-    → IsRefusal (IsNotUtf8 name) failure → IsRefusal (Refuses name bytes) failure
-refused_undecoded name bytes OutOfMemory invalid told = told
-refused_undecoded name bytes (Failed message) invalid told = told
-refused_undecoded name bytes (Refused refusal) invalid (code, told) =
-    subst (λ s. Refuses name bytes s (string_bytes refusal.message)) (sym code)
-    (subst (Refuses name bytes status.Refused) (sym told) (undecoded invalid))
+pub refused_undecoded : (name : List ℕ) (keep : List (List ℕ)) (bytes : List ℕ) (failure : Failure) → is_utf8 bytes ≡ false
+    → IsRefusal (IsNotUtf8 name) failure → IsRefusal (Refuses name keep bytes) failure
+refused_undecoded name keep bytes OutOfMemory invalid told = told
+refused_undecoded name keep bytes (Failed message) invalid told = told
+refused_undecoded name keep bytes (Refused refusal) invalid (code, told) =
+    subst (λ s. Refuses name keep bytes s (string_bytes refusal.message)) (sym code)
+    (subst (Refuses name keep bytes status.Refused) (sym told) (undecoded invalid))
 
 -- a source is refused for the error that is named of it, or since it nests too deep
-pub refused_named : (name bytes : List ℕ) (e : Error) (failure : Failure) → is_utf8 bytes ≡ true
+pub refused_named : (name : List ℕ) (keep : List (List ℕ)) (bytes : List ℕ) (e : Error) (failure : Failure) → is_utf8 bytes ≡ true
     → (e ≡ error_at parse.OutOfMemory 0 0) ⊎ IsFaultOf (chars bytes) (fault_view e)
-    → IsRefusal (IsRefusedFor name (chars bytes) e) failure → IsRefusal (Refuses name bytes) failure
-refused_named name bytes e OutOfMemory valid fault told = told
-refused_named name bytes e (Failed message) valid fault told = told
-refused_named name bytes e (Refused refusal) valid fault (inl (code, told)) =
-    subst (λ s. Refuses name bytes s (string_bytes refusal.message)) (sym code) (too_deep _ valid told)
-refused_named name bytes e (Refused refusal) valid (inl memory) (inr (code, told, other)) =
+    → IsRefusal (IsRefusedFor name (chars bytes) e) failure → IsRefusal (Refuses name keep bytes) failure
+refused_named name keep bytes e OutOfMemory valid fault told = told
+refused_named name keep bytes e (Failed message) valid fault told = told
+refused_named name keep bytes e (Refused refusal) valid fault (inl (code, told)) =
+    subst (λ s. Refuses name keep bytes s (string_bytes refusal.message)) (sym code) (too_deep _ valid told)
+refused_named name keep bytes e (Refused refusal) valid (inl memory) (inr (code, told, other)) =
     absurd (other (ap (λ (x : Error). x.error) memory))
-refused_named name bytes e (Refused refusal) valid (inr fault) (inr (code, told, other)) =
-    subst (λ s. Refuses name bytes s (string_bytes refusal.message)) (sym code)
-    (subst (Refuses name bytes status.Refused) (sym told) (named (fault_view e) valid fault))
+refused_named name keep bytes e (Refused refusal) valid (inr fault) (inr (code, told, other)) =
+    subst (λ s. Refuses name keep bytes s (string_bytes refusal.message)) (sym code)
+    (subst (Refuses name keep bytes status.Refused) (sym told) (named (fault_view e) valid fault))
+
+-- a source that lacks a name to keep is refused
+pub refused_lacking : (name : List ℕ) (keep : List (List ℕ)) (bytes : List ℕ) (failure : Failure) → is_utf8 bytes ≡ true
+    → IsRefusal (LacksName name keep (chars bytes)) failure → IsRefusal (Refuses name keep bytes) failure
+refused_lacking name keep bytes OutOfMemory valid told = told
+refused_lacking name keep bytes (Failed message) valid told = told
+refused_lacking name keep bytes (Refused refusal) valid told = lacking refusal.status _ valid told

@@ -31,10 +31,10 @@ module _ (options : Options) (files : Files) (left rest : Option (List ℕ)) (so
   })
 
   -- or it is refused
-  pub stops_from : (r : Result Minified Failure) → IfErr r (IsRefusal (Refuses (name_of options.input) shown))
+  pub stops_from : (r : Result Minified Failure) → IfErr r (IsRefusal (Refuses (name_of options.input) options.keep shown))
       → IfErr r (Stops options files left rest)
   stops_from r = IfErr-weaker r _ _ (λ (failure : Failure) h.
-      refused source read (subst (λ (s : List ℕ). IsRefusal (Refuses (name_of options.input) s) failure) is h))
+      refused source read (subst (λ (s : List ℕ). IsRefusal (Refuses (name_of options.input) options.keep s) failure) is h))
 
 -- an allocation may fail wherever a text is written
 pub memory_unwritten : (target : Target) (files : Files) → IsUnwritten target files OutOfMemory

@@ -1,5 +1,5 @@
 -- Why a run writes no minified text, and what is reported of it.
-use Rattle.std.specs.Prelude.{◌≡◌, ◌⊎◌, ℕ, true, false, List, ◌++◌, chars, codes, string_bytes}
+use Rattle.std.specs.Prelude.{◌≡◌, ◌⊎◌, ℕ, true, false, List, ◌++◌, Contains, chars, codes, string_bytes}
 use Rattle.std.specs.Str.{is_utf8}
 use Rattle.grammar.specs.Tokens.{Fault}
 use Rattle.wgsl_model.specs.Faults.Kinds.{message}
@@ -13,6 +13,7 @@ use Rattle.wgsl_files.specs.declared.status.Status.{Status}
 use Rattle.wgsl_files.specs.declared.status.Status.TheVariants as status
 use Rattle.wgsl_files.specs.Statuses.{code_of}
 use Rattle.wgsl_format.specs.Deeper.{IsDeeperInFile}
+use Rattle.wgsl_minify_files.specs.Kept.{HasName}
 use Rattle.wgsl_minify_files.specs.declared.failure.Failure.{Failure}
 use Rattle.wgsl_minify_files.specs.declared.failure.Failure.TheVariants.{Refused, Failed, OutOfMemory}
 
@@ -61,14 +62,31 @@ abbrev pub IsToldDeeper : List ℕ → List ℕ → List ℕ → Type 0
 IsToldDeeper name text message = (told : List ℕ) × IsDeeperInFile levels name text told
     × (message ≡ told ++ codes "\n")
 
+-- what is reported of a name to keep that the file of this name does not have
+abbrev pub unknown_name : List ℕ → List ℕ → List ℕ
+unknown_name file text =
+    file ++ (codes ": error: option '--keep' takes names of the module, not `" ++ (text ++ codes "`\n"))
+
+-- that is so
+abbrev pub IsUnknownName : List ℕ → List ℕ → Status → List ℕ → Type 0
+IsUnknownName file text code message = (code ≡ status.Usage) × (message ≡ unknown_name file text)
+
+-- one of some names to keep is nowhere in the text of the file of this name
+abbrev pub LacksName : List ℕ → List (List ℕ) → List ℕ → Status → List ℕ → Type 0
+LacksName file keep source code message = (text : List ℕ) × Contains keep text × HasName false source text
+    × IsUnknownName file text code message
+
 -- The bytes of the file of this name are refused with a status and this message: the place and the
--- error that is named of the text, or that it is not UTF-8, or where it nests too deep.
-pub data Refuses (name bytes : List ℕ) : Status → List ℕ → Type 0 where
-  named : (x : Fault) → is_utf8 bytes ≡ true → IsFaultOf (chars bytes) x → Refuses name bytes status.Refused
+-- error that is named of the text, or that it is not UTF-8, or where it nests too deep, or a name to
+-- keep that is nowhere in it.
+pub data Refuses (name : List ℕ) (keep : List (List ℕ)) (bytes : List ℕ) : Status → List ℕ → Type 0 where
+  named : (x : Fault) → is_utf8 bytes ≡ true → IsFaultOf (chars bytes) x → Refuses name keep bytes status.Refused
       (message_in_file name (message x.kind x.texts) (chars bytes) x.span ++ codes "\n")
-  undecoded : is_utf8 bytes ≡ false → Refuses name bytes status.Refused (not_utf8 name)
+  undecoded : is_utf8 bytes ≡ false → Refuses name keep bytes status.Refused (not_utf8 name)
   too_deep : (message : List ℕ) → is_utf8 bytes ≡ true → IsToldDeeper name (chars bytes) message
-      → Refuses name bytes status.OutOfMemory message
+      → Refuses name keep bytes status.OutOfMemory message
+  lacking : (code : Status) (message : List ℕ) → is_utf8 bytes ≡ true → LacksName name keep (chars bytes) code message
+      → Refuses name keep bytes code message
 
 -- a source is refused with this status and this message, unless an allocation failed
 abbrev pub IsRefusal : (Status → List ℕ → Type 0) → Failure → Type 0

@@ -1,5 +1,6 @@
 pub mod Options
 pub mod View
+pub mod Kept
 pub mod Failures
 pub mod Runs
 pub mod Start

@@ -2,6 +2,7 @@
 use Rattle.std.specs.Prelude.{◌≡◌, ℕ, true, false, List, ◌++◌, Option, Some, None, chars, codes}
 use Rattle.std.specs.Io.KnownBytes.{IsAtEnd}
 use Rattle.std.specs.Option.{unwrap_or}
+use Rattle.std.specs.List.{All}
 use Rattle.std.specs.Str.{is_utf8}
 use Rattle.wgsl_files.specs.Files.{Files, Holds, HasNone, Same, Replaced}
 use Rattle.wgsl_format.specs.Ends.{IsInput}
@@ -9,6 +10,7 @@ use Rattle.wgsl_minify.specs.Modules.{IsMinified}
 use Rattle.wgsl_name_map.specs.Maps.{map_form}
 use Rattle.wgsl_program.specs.World.{World, Says}
 use Rattle.wgsl_minify_files.specs.Failures.{message_of, code_of_failure, IsFailed, IsFailedFor, IsRefusal, Refuses}
+use Rattle.wgsl_minify_files.specs.Kept.{HasName}
 use Rattle.wgsl_minify_files.specs.Options.{Options, Target, to_stream, to_file}
 use Rattle.wgsl_minify_files.specs.declared.failure.Failure.{Failure}
 use Rattle.wgsl_minify_files.specs.declared.failure.Failure.TheVariants.{OutOfMemory}
@@ -22,12 +24,14 @@ abbrev pub IsSource : Option (List ℕ) → Files → Option (List ℕ) → Opti
 IsSource None files left rest source = IsInput left source × IsAtEnd rest
 IsSource (Some path) files left rest source = Holds files path source × (rest ≡ left)
 
--- the source is UTF-8 and a module; this is its minified text, with these new names
+-- the source is UTF-8 and a module that has the names to keep; this is its minified text, with these
+-- new names
 pub record IsMinifiedText (options : Options) (source : List ℕ) (table : List (List ℕ × List ℕ))
     (text : List ℕ) : Type 0 where
   pub source_valid : is_utf8 source ≡ true
   pub text_valid : is_utf8 text ≡ true
   pub minified : IsMinified options.which options.keep (chars source) table (chars text)
+  pub kept : All (HasName true (chars source)) options.keep
 
 -- what the file of the new names has: their JSON and a line break
 abbrev pub map_file : List (List ℕ × List ℕ) → List ℕ
@@ -50,7 +54,7 @@ IsUnread (Some path) files failure = IsFailedFor (HasNone files path) path failu
 pub data Stops (options : Options) (files : Files) (left rest : Option (List ℕ)) (failure : Failure) : Type 0 where
   unread : IsUnread options.input files failure → Stops options files left rest failure
   refused : (source : List ℕ) → IsSource options.input files left rest source
-      → IsRefusal (Refuses (name_of options.input) source) failure → Stops options files left rest failure
+      → IsRefusal (Refuses (name_of options.input) options.keep source) failure → Stops options files left rest failure
 
 -- a text is not written to its place: the file could not be written, and contracts do not know what
 -- the files hold, or an allocation failed

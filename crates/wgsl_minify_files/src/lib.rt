@@ -3,6 +3,7 @@
 
 mod failure;
 mod host;
+mod kept;
 mod minified;
 mod options;
 mod program;

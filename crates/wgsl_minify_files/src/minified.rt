@@ -5,12 +5,14 @@ ghost use Rattle.std.specs.Option.{option_copied};
 ghost use Rattle.wgsl_span.specs.View.{span_view};
 ghost use Rattle.wgsl_error.specs.Places.{message_in_file};
 ghost use Rattle.wgsl_error.specs.Printing.{print_message};
+ghost use Rattle.wgsl_minify_names.specs.View.{texts};
 ghost use Rattle.wgsl_tree_renamed.specs.NewNames.{pairs};
 ghost use Rattle.wgsl_minify_files.specs.Failures.{IsNotUtf8, IsRefusal, IsRefusedFor, IsToldDeeper, IsTooDeep, Refuses};
 ghost use Rattle.wgsl_minify_files.specs.Runs.{name_of, IsMinifiedText};
 ghost use Rattle.wgsl_minify_files.specs.View.{options_view};
 
 use crate::failure::Failure;
+use crate::kept::check_kept;
 use crate::options::Options;
 use std::alloc::{AllocError, Global};
 use wgsl_error::{Error, ErrorKind};
@@ -32,8 +34,8 @@ pub fn name_of(path: Option<&str>) -> &str
     }
 }
 
-/// Minifies a source as is asked for. It fails only where the source is refused, or an allocation
-/// fails.
+/// Minifies a source as is asked for. It fails only where the source is refused, which it also is
+/// if a name to keep is nowhere in it, or an allocation fails.
 pub fn minify_source(
     alloc: Global,
     options: &Options<'_>,
@@ -42,19 +44,24 @@ pub fn minify_source(
     ensures minified { IfOk result (λ it. IsMinifiedText (options_view options.now) source.now
         (pairs it.names) (string_bytes it.text)) }
     ensures refused { IfErr result
-        (IsRefusal (Refuses (name_of (option_copied options.now.input)) source.now)) }
+        (IsRefusal (Refuses (name_of (option_copied options.now.input))
+        (texts options.now.keep.items) source.now)) }
 {
     let name = name_of(options.input);
     let Ok(text) = std::str::from_utf8(source) else {
         return Err(not_utf8(alloc, name));
     };
+    let keep = options.keep.as_slice();
     let asked = MinifyOptions {
         names: options.names,
-        keep: options.keep.as_slice(),
+        keep,
     };
     // A statement or an expression that nests in nothing is a level there.
     match minify_within(alloc, text, asked, DEPTH + 1) {
-        Ok(minified) => Ok(minified),
+        Ok(minified) => {
+            check_kept(alloc, name, text, keep)?;
+            Ok(minified)
+        }
         Err(error) => Err(refusal(alloc, name, text, error)),
     }
 }

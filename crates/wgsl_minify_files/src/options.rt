@@ -98,7 +98,7 @@ fn command<'a>(alloc: Global) -> Result<Command<'a>, AllocError>
         alloc,
         "keep",
         "NAME[,NAME]..",
-        "Names that stay; may be repeated",
+        "Names of the module that stay; may be repeated",
     )
     .action(ArgAction::Append);
     let map = setting(
