@@ -1,5 +1,5 @@
 -- What `parse` reads is the number that a text is.
-use Rattle.std.proofs.Common.{◌≡◌, ◌≢◌, refl, subst, ℕ, ◌<◌, ◌≤◌, ◌^◌, ◌&&◌, ◌==◌, not, nat_lt, Bool, true, false, List, length, get_or, Some, None, Result, Ok, Err, arith}
+use Rattle.std.proofs.Common.{◌≡◌, ◌≢◌, refl, subst, ℕ, ◌<◌, ◌^◌, ◌&&◌, ◌==◌, not, nat_lt, Bool, true, false, List, length, get_or, Some, None, Result, Ok, Err, arith}
 use Rattle.std.specs.Result.{OkIff}
 use Rattle.std.specs.Str.{all_ascii_digits}
 use Rattle.std.specs.Str.Parse.{ParsesUnsigned, digits_value}

@@ -1,5 +1,5 @@
 -- Which messages get a reply, and which one.
-use Rattle.std.specs.Prelude.{◌≡◌, ℕ, List, codes, Option, Some, None}
+use Rattle.std.specs.Prelude.{◌≡◌, codes, Option, Some, None}
 use Rattle.serde_json.specs.Data.{Data, null}
 use Rattle.wgsl_server_protocol.specs.Messages.{Kind, request, notification, response, invalid}
 use Rattle.wgsl_server_protocol.specs.Replies.{Outcome, failure, reply_of}

@@ -1,6 +1,6 @@
 -- Replies as values of JSON ("Response Message"). Members are in the order of their keys.
 use Rattle.std.specs.Prelude.{ℕ, ◌-◌, ℤ, negsuc, List, codes, string_bytes}
-use Rattle.serde_json.specs.Data.{Num, Data, number, string, object, member, no_members}
+use Rattle.serde_json.specs.Data.{Data, number, string, object, member, no_members}
 use Rattle.serde_json.specs.Find.{of_integer}
 use Rattle.serde_json.specs.View.{view}
 use Rattle.wgsl_server_protocol.specs.declared.reply.Outcome as code

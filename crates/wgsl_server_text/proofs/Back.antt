@@ -1,11 +1,11 @@
 -- The offset of the position of a border is the border.
-use Rattle.std.proofs.Common.{◌≡◌, refl, ap, sym, ◌∙◌, subst, ℕ, zero, suc, ◌+◌, ◌-◌, ◌<◌, ◌≤◌, ◌==◌, nat_lt, nat_le, Bool, true, false, cond, ◌&&◌, ◌||◌, not, List, [], ◌∷◌, length, slice_index, Option, Some, None, ◌⊎◌, inl, inr, eq-eqb, arith}
+use Rattle.std.proofs.Common.{◌≡◌, refl, ap, sym, ◌∙◌, subst, ℕ, zero, suc, ◌+◌, ◌-◌, ◌<◌, ◌≤◌, ◌==◌, nat_lt, nat_le, Bool, true, false, cond, ◌&&◌, ◌||◌, not, List, [], ◌∷◌, length, slice_index, Some, None, ◌⊎◌, inl, inr, eq-eqb, arith}
 use Rattle.std.proofs.Math.Bool.{or-true}
-use Rattle.std.proofs.lemmas.Bool.{cond-true, cond-false, le-ltb, le-leb, false_from_ne_true}
+use Rattle.std.proofs.lemmas.Bool.{cond-true, le-ltb, le-leb, false_from_ne_true}
 use Rattle.std.proofs.lemmas.Bool.Decides.{Decides-eqb, nat_tests}
 use Rattle.std.specs.Option.{option_map}
 use Rattle.wgsl_server_text.specs.Lines.{is_break, begins_with_line_feed, ends_line}
-use Rattle.wgsl_server_text.specs.Positions.{is_first, units, after, position_from, position_at, bytes_before, offset_from, offset_at, IsInBreak, IsBorder}
+use Rattle.wgsl_server_text.specs.Positions.{is_first, units, after, position_from, position_at, bytes_before, offset_from, offset_at, IsBorder}
 use Rattle.wgsl_server_text.specs.Edits.{in_order, offsets_of, range_at}
 use Rattle.wgsl_server_text.specs.declared.encoding.PositionEncoding.{PositionEncoding}
 use Rattle.wgsl_server_text.specs.declared.encoding.PositionEncoding.TheVariants as encoding

@@ -1,5 +1,5 @@
 -- The position of an offset in a line that begins before it.
-use Rattle.std.proofs.Common.{◌≡◌, refl, ap, sym, ◌∙◌, subst, ℕ, zero, suc, ◌+◌, ◌-◌, ◌<◌, ◌≤◌, Bool, true, false, cond, List, [], ◌∷◌, length, take, drop, slice_index, arith}
+use Rattle.std.proofs.Common.{◌≡◌, refl, ap, sym, ◌∙◌, subst, ℕ, zero, suc, ◌+◌, ◌-◌, ◌<◌, ◌≤◌, Bool, true, false, List, [], ◌∷◌, length, take, drop, slice_index, arith}
 use Rattle.std.specs.Bool.{⊤}
 use Rattle.std.proofs.lemmas.Bool.{cond-true, cond-false}
 use Rattle.std.proofs.lemmas.List.{length-drop}
@@ -7,7 +7,7 @@ use Rattle.wgsl_server_text.specs.Lines.{ends_line, starts_from, line_starts}
 use Rattle.wgsl_server_text.specs.Positions.{units, width, after, position_from, position_at}
 use Rattle.wgsl_server_text.specs.declared.encoding.PositionEncoding.{PositionEncoding}
 use Rattle.wgsl_server_text.specs.declared.position.Position.{Position}
-use Rattle.wgsl_server_text.proofs.LineStarts.{place, first_of, after_end, after_within, OnLine, on_line}
+use Rattle.wgsl_server_text.proofs.LineStarts.{place, first_of, after_within, on_line}
 
 -- the next line begins after an offset, if there is one
 abbrev NextAfter : List ℕ → ℕ → Type 0

@@ -1,5 +1,5 @@
 -- Units of the bytes that a loop has gone over.
-use Rattle.std.proofs.Common.{◌≡◌, ap, ℕ, ◌+◌, ◌<◌, ◌≤◌, Bool, true, false, cond, nat_lt, List, ◌∷◌, length, drop, slice_index, arith}
+use Rattle.std.proofs.Common.{◌≡◌, ap, ℕ, ◌+◌, ◌<◌, ◌≤◌, Bool, true, false, cond, nat_lt, List, length, drop, slice_index, arith}
 use Rattle.std.proofs.lemmas.List.{drop_more}
 use Rattle.wgsl_server_text.specs.Positions.{is_first, units, width}
 use Rattle.wgsl_server_text.specs.declared.encoding.PositionEncoding.{PositionEncoding}

@@ -1,5 +1,5 @@
 -- The lines of a text, as the Language Server Protocol has them. A text is its bytes in UTF-8.
-use Rattle.std.specs.Prelude.{ℕ, suc, ◌+◌, ◌==◌, Bool, false, not, ◌&&◌, ◌||◌, List, [], ◌∷◌, if◌then◌else◌}
+use Rattle.std.specs.Prelude.{ℕ, suc, ◌==◌, Bool, false, not, ◌&&◌, ◌||◌, List, [], ◌∷◌, if◌then◌else◌}
 
 -- the bytes of line breaks: LF and CR
 abbrev pub is_break : ℕ → Bool
