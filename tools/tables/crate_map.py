@@ -7,6 +7,8 @@ these. The status is 1 if a crate has no description or comes before one that it
 import sys
 from pathlib import Path
 
+from filling import fill
+
 READS = ("crates.txt",)
 WRITES = ("docs/MAP.md",)
 
@@ -59,6 +61,4 @@ def picture(found):
 def main():
     found = layers()
     check([crate for _, crates in found for crate in crates])
-    text = DOCUMENT.read_text()
-    before, after = text[: text.index(BEGIN)], text[text.index(END):]
-    DOCUMENT.write_text(f"{before}{BEGIN}\n\n{picture(found)}\n\n{after}")
+    fill(DOCUMENT, BEGIN, f"\n\n{picture(found)}\n\n", END)

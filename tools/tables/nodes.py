@@ -8,6 +8,7 @@ import textwrap
 from pathlib import Path
 
 import inputs
+from filling import fill
 from node_table import TABLE, Table, check, snake
 
 READS = (inputs.NODES, inputs.SOURCES)
@@ -29,13 +30,6 @@ PRINTED = ["TranslationUnit", "GlobalDirective", "GlobalDeclaration", "Statement
            "BreakIfStatement", "TypeConstraint"]
 # the enums of these of which each variant has the print of what it holds
 PLAIN = ["GlobalDirective", "GlobalDeclaration", "Statement", "Expression"]
-
-
-def fill(path, begin, text, end):
-    """Writes a text into a file, between two of its lines."""
-    old = path.read_text()
-    at = old.index(begin) + len(begin)
-    path.write_text(old[:at] + text + old[old.index(end, at):])
 
 
 def listed(heading, kinds, shown):

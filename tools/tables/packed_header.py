@@ -4,8 +4,8 @@ from pathlib import Path
 
 import inputs
 import packed_rules
+from filling import fill
 from node_table import Table
-from nodes import fill
 from packed_kinds import Sorts
 from packed_places import code
 

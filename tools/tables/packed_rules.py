@@ -12,6 +12,7 @@ from pathlib import Path
 from typing import NamedTuple
 
 import inputs
+from filling import fill
 
 READS = (inputs.RULES,)
 WRITES = ("crates/wgsl_model_packed/specs/Rules.antt",
@@ -176,22 +177,12 @@ def starts(rules):
                    ('"', '{"', '["', '{"span":'))
 
 
-def fill(path, begin, text, end):
-    """Writes a text into a file, between two of its lines."""
-    old = path.read_text()
-    at = old.index(begin) + len(begin)
-    path.write_text(old[:at] + text + old[old.index(end, at):])
-
-
 def main():
     rules = read()
     written = {SPECS: definition(rules), JSON: json_definition(rules), TABLE: table(rules),
                NUMBERS: constants(rules), BINDING: binding(rules)}
     for path, text in written.items():
-        if path.parent.is_dir():
-            path.write_text(text)
-    if DOCUMENT.exists():
-        fill(DOCUMENT, f"<!-- The table is {BY[0].lower()}{BY[1:]}. -->", document(rules),
-             "<!-- The end of the table. -->")
-    if TEST.exists():
-        fill(TEST, "\nstatic const char *const starts[] = {\n", starts(rules), "};\n")
+        path.write_text(text)
+    fill(DOCUMENT, f"<!-- The table is {BY[0].lower()}{BY[1:]}. -->", document(rules),
+         "<!-- The end of the table. -->")
+    fill(TEST, "\nstatic const char *const starts[] = {\n", starts(rules), "};\n")

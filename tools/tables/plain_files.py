@@ -3,8 +3,8 @@ import re
 import textwrap
 
 import antt
+from filling import fill
 from node_table import snake
-from nodes import fill
 
 
 def spaced(name):

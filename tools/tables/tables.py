@@ -48,12 +48,6 @@ def mapped(*parts):
     return node("mapped", parts[0] if len(parts) == 1 else node("sequence", *parts))
 
 
-def listed(comma, part):
-    """Parts with commas between, and maybe one after the last."""
-    separated = node("left_chain", mapped(part), mapped(token([comma]), part))
-    return node("choice", separated, mapped(separated, token([comma])))
-
-
 # what the words of the notation make of their arguments, and its signs of their sides: what is on
 # the right of some is not read
 WORDS = {
@@ -65,8 +59,6 @@ WORDS = {
     "many": lambda part: node("left_chain", EMPTY, part),
     "several": lambda part: node("left_chain", mapped(part), part),
     "lifted": lambda part: part,
-    "list": listed,
-    "list_or_none": lambda comma, part: node("choice", listed(comma, part), EMPTY),
 }
 ALONE = {
     "means": lambda it: mapped(token([it])),

@@ -6,8 +6,8 @@ from itertools import groupby
 from pathlib import Path
 
 import inputs
+from filling import fill
 from node_table import snake
-from nodes import fill
 from token_table import TABLE, Table
 
 READS = (inputs.TOKENS,)

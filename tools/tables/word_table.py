@@ -7,6 +7,7 @@ from collections import defaultdict
 from pathlib import Path
 
 import inputs
+from filling import fill
 from token_table import Table
 
 READS = (inputs.TOKENS,)
@@ -14,8 +15,8 @@ WRITES = ("crates/wgsl_lex_scanner/src/word_table.rt",)
 
 WRITTEN = Path("crates/wgsl_lex_scanner/src/word_table.rt")
 
-# what is written begins and ends before these lines
-BEGIN = "/// How many keywords and reserved words there are."
+# what is written begins after the first of these lines, and ends before the second
+BEGIN = "/// How many keywords and reserved words there are.\n"
 END = "/// How far the sum is moved."
 
 GROUPS = 64
@@ -60,7 +61,6 @@ def written(entries):
     places = [words.index(sums[it]) if it in sums else 0 for it in range(SUMS)]
     lines = "".join(f'    ("{word}", {meaning}),\n' for word, meaning in entries.items())
     return f"""\
-/// How many keywords and reserved words there are.
 const WORD_COUNT: usize = {len(entries)};
 
 /// The keywords and the reserved words, in the order of their letters.
@@ -82,6 +82,4 @@ def main():
     entries = {it.text: f"Meaning::Keyword(TokenKind::{it.name})" for it in table.keywords}
     entries |= dict.fromkeys(table.reserved, "Meaning::Reserved")
     entries = dict(sorted(entries.items()))
-    text = WRITTEN.read_text()
-    begin, end = text.index(BEGIN), text.index(END)
-    WRITTEN.write_text(text[:begin] + written(entries) + text[end:])
+    fill(WRITTEN, BEGIN, written(entries), END)
