@@ -8,8 +8,9 @@ one: where a scope is more or less than a block. The names of expressions are co
 import re
 from pathlib import Path
 
+import goals
 import inputs
-from cycle_parts import Cycle, Part, imports
+from cycle_parts import COMMON, STATEMENTS, Cycle, Part
 from name_steps import Said
 from names_defined import PLAIN, clauses_in, uses
 from node_table import TABLE, Table, snake
@@ -101,7 +102,7 @@ class Collects:
             return self.template(kind, made)
         if kind.name == "Attribute":
             return "inner", self.argument(made, held, struct)
-        if held and self.cycle.has(Part("", held)) and self.crate == self.cycle.crate:
+        if held and self.cycle.has(Part("", held)) and self.crate == "statement":
             return "inner", f"put_{self.cycle.stem(held)}(inner, found)"
         if struct and struct.form == "struct":
             return "inner", self.body(struct, self.said.of_variant(kind, made, struct), "inner")
@@ -194,8 +195,7 @@ class Collects:
 
     def own_function(self, part):
         """The function of a list or of a part that may be left out."""
-        is_spanned = self.table.by_name[part.item].is_spanned
-        item = f"{part.item}Node" if is_spanned else part.item
+        is_spanned, item = self.cycle.is_spanned(part), self.cycle.node(part)
         node, stem = ".node()" * is_spanned, self.cycle.stem(part.item)
         if part.is_list:
             place = f"nodes[i]{node}" if is_spanned else "&nodes[i]"
@@ -235,8 +235,8 @@ class Collects:
                 yield self.implemented(kind)
             if kind.name in DECLARING:
                 yield self.declared(kind)
-        if self.crate == self.cycle.crate:
-            yield from map(self.own_function, self.cycle.own_parts())
+        if self.crate == "statement":
+            yield from map(self.own_function, self.cycle.own_parts)
 
     def heads(self, code):
         """The definitions that the clauses name."""
@@ -250,7 +250,7 @@ class Collects:
             yield f"ghost use Rattle.{TREES}.NamedValues as plain_value;"
         if "plain" in words:
             yield f"ghost use Rattle.{TREES}.{PLAIN[self.crate]} as plain;"
-        makers = {self.cycle.made_of(part.held) for part in self.cycle.own_parts()} & words
+        makers = {self.cycle.made_of(part.held) for part in self.cycle.own_parts} & words
         yield from ghost_uses(f"{TREES}.Statements", sorted(makers))
         yield from ghost_uses(NAMES, [it for it in self.defined.types if it in words])
         yield from ghost_uses("wgsl_model_names.specs.Scopes", ["◌then◌"] * (" then " in text))
@@ -272,27 +272,24 @@ class Collects:
 
     def invariants(self):
         """The invariants of the loops: what is put are the last items."""
-        lines = []
-        for part in filter(lambda it: it.is_list, self.cycle.own_parts()):
-            name = f"invariant-put_{self.cycle.stem(part.held)}-nodes"
+        def invariant(part):
             names = self.own_names(part, "(drop l.i l.nodes.items)")
-            lines += ["", f"abbrev pub {name} : goal.{name}",
-                      f"{name} l = Collects ({names}) l.fn.found l.found"]
-        body = "\n".join([*lines, ""])
-        modules = [f"Rattle.{TREES}.Statements", f"Rattle.{NAMES}",
-                   f"Rattle.wgsl_tree_{self.crate}.specs.View", f"{HERE}.specs.Found"]
-        common = {"Rattle.std.proofs.Common": ["drop", "map"]}
-        return "\n".join([f"-- {WRITTEN}.", *imports(body, self.cycle, modules, common),
-                          f"use {HERE}.proofs.statement_nodes.+statements.Given as goal", body])
+            return (goals.invariant(f"put_{self.cycle.stem(part.held)}", "nodes"),
+                    f"Collects ({names}) l.fn.found l.found")
+
+        modules = [STATEMENTS, f"Rattle.{NAMES}", "Rattle.wgsl_tree_statement.specs.View",
+                   f"{HERE}.specs.Found"]
+        return self.cycle.invariants(f"{WRITTEN}.", invariant, modules, {COMMON: ["drop", "map"]},
+                                     f"{HERE}.proofs.statement_nodes.+statements")
 
 
 def main():
     table, at = Table(), places()
-    cycle = Cycle(table, at, "Statement")
+    cycle = Cycle(table, at)
     for crate in PLAIN:
         collects = Collects(table, crate, at, cycle)
         (CRATE / f"src/{crate}_nodes.rt").write_text(collects.code())
-        if crate == cycle.crate:
+        if crate == "statement":
             folder = CRATE / "proofs/statement_nodes/+statements"
             folder.mkdir(parents=True, exist_ok=True)
             (folder / "Invariants.antt").write_text(collects.invariants())

@@ -1,15 +1,13 @@
 """Copies of the kinds that contain each other, for tools/tables/tree_copies.py: of lists and of
 parts that may be left out, and the proofs that a copy is seen as its node is."""
 import goals
-from cycle_parts import LIBRARY, imports
+from cycle_parts import COMMON, CRATE, LAYERS, LIBRARY, STATEMENTS
 from goals import c, proof
 from node_table import TABLE, snake
 from tree_terms import bracketed
 
-# the kinds that contain each other, by their crates
-ROOTS = {"statement": "Statement"}
-WRITTEN = f"-- Written by tools/tables/tree_copies.py from {TABLE}."
-COMMON = "Rattle.std.proofs.Common"
+WRITTEN = f"Written by tools/tables/tree_copies.py from {TABLE}."
+GOALS = f"{CRATE}.proofs.copies_nodes.+clone"
 
 
 def clone_of(kind):
@@ -19,9 +17,8 @@ def clone_of(kind):
 
 def own_functions(cycle):
     """The functions that copy the lists and the optional parts of a cycle."""
-    for part in cycle.own_parts():
-        is_spanned = cycle.table.by_name[part.item].is_spanned
-        item = f"{part.item}Node" if is_spanned else part.item
+    for part in cycle.own_parts:
+        is_spanned, item = cycle.is_spanned(part), cycle.node(part)
         given, made = (f"&[{item}]", f"Vec<{item}>") if part.is_list else (
             f"&Option<{item}>", f"Option<{item}>")
         first = "let copy = node.node().clone_with(alloc)?;" if is_spanned else ""
@@ -78,24 +75,22 @@ class Answers:
         calls = goals.in_order(map(self.call, parts))
         lets = "".join(f"    {self.copied(*it)}\n" for it in zip(parts, calls))
         values = {it.name: self.cycle.as_own(it.held, f"{it.name} i") for it in parts}
-        split = any(self.cycle.is_own(part) and part.is_optional for part in parts)
-        rolled = f"{name}_roll{' _' * (len(parts) if split else 1)}"
         if "original." in lets:
             lets = f"    let original = layers.out-{kind.name} {c.given('self')} in\n{lets}"
         return proof(goals.returns(clone_of(kind)), f"\n{lets}"
-                     f"    record {{ copy = {rolled} ∙ (λ i. {self.cycle.made(kind, values)})"
+                     f"    record {{ copy = {self.cycle.rolled(kind)} ∙ "
+                     f"(λ i. {self.cycle.made(kind, values)})"
                      f" ∙ sym ({name}_out {c.given('self')}) }}")
 
     def listed(self, part):
         """That a list is copied: one item more, and all."""
         seen, name = self.cycle.seen(part.held, ""), f"clone_{self.cycle.stem(part.held)}"
         view = bracketed(seen.strip())
-        is_spanned = self.cycle.table.by_name[part.item].is_spanned
         item = self.cycle.view(part.item)
         items, made, nodes = c.given("part"), c.ok("clone_with"), c.of("nodes")
         node, same = c.item("node").of("result"), ""
         copy, more, last = made.of("field-0"), f"item_more {item} {items}", made.ensures("copy")
-        if is_spanned:
+        if self.cycle.is_spanned(part):
             copy, more, last = c.ok("new").of("field-0"), f"node_more {items}", "same"
             same = f"    let same : {item} {copy} ≡ {item} {node} = search rules in\n"
         yield proof(goals.preserved(name, "nodes"), f"\n{same}"
@@ -110,7 +105,7 @@ class Answers:
         name, view = f"clone_{self.cycle.stem(part.held)}", self.cycle.view(part.item)
         yield proof(goals.returns(name, goals.arm("None")),
                     f" sym (ap (option_map {view}) {c.arm('None').of('is')})")
-        if not self.cycle.table.by_name[part.item].is_spanned:
+        if not self.cycle.is_spanned(part):
             call = goals.at("clone_with", goals.arm("Some"))
             yield proof(goals.returns(name, goals.ok(call)),
                         f" ap Some {c.ok(call).ensures('copy')} ∙ "
@@ -118,47 +113,34 @@ class Answers:
 
     def blocks(self):
         """That a block as a statement is copied: its plain tree has the parts of the block."""
-        root, call = self.cycle.root, goals.at("clone_with", goals.arm("Compound"))
-        if "Compound" in dict(root.parts):
-            yield proof(goals.returns(clone_of(root), goals.ok(call)),
-                        " record { copy = is_compound _ ∙ "
-                        f"ap block_statement {c.ok(call).ensures('copy')} ∙ "
-                        f"sym (ap (λ (s : {root.name}). {snake(root.name)}_view s) "
-                        f"{c.arm('Compound').of('is')} ∙ is_compound _) }}")
+        call = goals.at("clone_with", goals.arm("Compound"))
+        return proof(goals.returns(clone_of(self.cycle.root), goals.ok(call)),
+                     " record { copy = is_compound _ ∙ "
+                     f"ap block_statement {c.ok(call).ensures('copy')} ∙ "
+                     "sym (ap (λ (s : Statement). statement_view s) "
+                     f"{c.arm('Compound').of('is')} ∙ is_compound _) }}")
 
     def text(self):
         """The file of the proofs."""
-        cycle, own = self.cycle, self.cycle.own_parts()
-        lists = [part for part in own if part.is_list]
-        texts = [it for part in lists for it in self.listed(part)]
-        texts += [it for part in own if part.is_optional for it in self.optional(part)]
-        body = "\n".join([*map(self.struct, cycle.structs), *texts, *self.blocks()])
-        root, crate = cycle.root.name, f"Rattle.wgsl_tree_{cycle.crate}"
-        trees = f"Rattle.wgsl_model.specs.{cycle.views[root].file}"
+        texts = [*map(self.struct, self.cycle.structs),
+                 *(it for part in self.cycle.lists for it in self.listed(part)),
+                 *(it for part in self.cycle.optional for it in self.optional(part)),
+                 self.blocks()]
         others = {COMMON: ["rules", "◌≡◌", "◌∙◌", "sym", "ap", "map", "Some"],
                   "Rattle.std.proofs.lemmas.List": ["take_all"], **LIBRARY}
-        modules = ["Rattle.wgsl_model.specs.Trees.Attributed", trees,
+        modules = ["Rattle.wgsl_model.specs.Trees.Attributed", STATEMENTS,
                    *(f"Rattle.wgsl_tree_{it}.specs.View" for it in ("expression", "simple")),
-                   "Rattle.wgsl_tree_attribute.proofs.Copies", f"{crate}.specs.View",
-                   f"{crate}.proofs.Views", f"{crate}.proofs.Copies"]
-        return "\n".join([
-            WRITTEN, *imports(body, cycle, modules, others), f"use {trees} as plain",
-            f"use {cycle.at[root].declared}.{root}.TheViews as layers",
-            f"use {crate}.proofs.copies_nodes.+clone.Goals as goal", "", body])
+                   "Rattle.wgsl_tree_attribute.proofs.Copies", f"{CRATE}.specs.View",
+                   f"{CRATE}.proofs.Views", f"{CRATE}.proofs.Copies"]
+        return self.cycle.file(WRITTEN, "\n".join(texts), modules, others, f"{STATEMENTS} as plain",
+                               LAYERS, f"{GOALS}.Goals as goal")
 
-    def invariants(self):
-        """The invariants of the loops: what is copied so far."""
-        crate, lines = f"Rattle.wgsl_tree_{self.cycle.crate}", []
-        for part in filter(lambda it: it.is_list, self.cycle.own_parts()):
-            name = goals.invariant(f"clone_{self.cycle.stem(part.held)}", "nodes")
-            seen = [self.cycle.seen(part.held, it)
-                    for it in ("l.copies.items", "(take l.node-index l.part)")]
-            lines += ["", f"abbrev pub {name} : goal.{name}", f"{name} l = {' ≡ '.join(seen)}"]
-        body = "\n".join([*lines, ""])
-        common = {COMMON: ["◌≡◌", "map", "take"]}
-        return "\n".join([
-            WRITTEN, *imports(body, self.cycle, [f"{crate}.specs.View"], common),
-            f"use {crate}.proofs.copies_nodes.+clone.Given as goal", body])
+    def invariant(self, part):
+        """The invariant of the loop over a list: what is copied so far."""
+        seen = [self.cycle.seen(part.held, it)
+                for it in ("l.copies.items", "(take l.node-index l.part)")]
+        name = goals.invariant(f"clone_{self.cycle.stem(part.held)}", "nodes")
+        return name, " ≡ ".join(seen)
 
 
 def answers_of_cycle(cycle, folder):
@@ -166,4 +148,6 @@ def answers_of_cycle(cycle, folder):
     answers = Answers(cycle)
     folder.mkdir(parents=True, exist_ok=True)
     (folder / "Answers.antt").write_text(answers.text())
-    (folder / "Invariants.antt").write_text(answers.invariants())
+    (folder / "Invariants.antt").write_text(cycle.invariants(
+        WRITTEN, answers.invariant, [f"{CRATE}.specs.View"], {COMMON: ["◌≡◌", "map", "take"]},
+        GOALS))

@@ -1,22 +1,29 @@
-"""The kinds that contain each other, and the parts of their structs: what each is as plain data and
-as a code. For the tools that write what follows from the fields of such kinds."""
+"""The kinds that contain statements and that statements contain: the parts of their structs, what
+each is as plain data and as a code, and files about them. For the tools that write what follows
+from the fields of such kinds."""
 import re
 from dataclasses import dataclass
 
 from node_specs import cycle
 from node_table import TREES, snake
-from plain_trees import CONSTRUCTED, INLINE, OWN, RENAMED, coded, is_apart, maker
+from plain_trees import CONSTRUCTED, OWN, RENAMED, coded, is_apart, maker
 from tree_codes import value
-from tree_nodes import Plain, View, views
+from tree_nodes import Plain, View, use_lines, views
 from tree_terms import bracketed, exports
 
+ROOT = "Statement"
+CRATE = "Rattle.wgsl_tree_statement"
+# the definitions of the types, and the module of their plain trees
+DECLARED = f"{CRATE}.specs.declared.statement.{ROOT}"
+FILE = "Trees.Statements"
+STATEMENTS = f"Rattle.wgsl_model.specs.{FILE}"
+LAYERS = f"{DECLARED}.TheViews as layers"
+COMMON = "Rattle.std.proofs.Common"
 # where types and functions of the library are, but for those of nodes
 LIBRARY = {"Rattle.std.specs.Option": ["option_map"],
            "Rattle.std.specs.declared.vec.Vec": ["Vec"],
            "Rattle.std.specs.declared.alloc.Global": ["Global"],
            "Rattle.wgsl_span.specs.declared.Spanned": ["Spanned"]}
-# the plain trees of the kinds that contain a kind
-FILES = {"Statement": "Trees.Statements", "Expression": "Trees.Expressions"}
 
 
 @dataclass(frozen=True)
@@ -41,19 +48,21 @@ class Part:
 
 
 class Cycle:
-    """A kind and those that contain it and that it contains, in the order of the table."""
+    """Statements and the kinds that contain them and that they contain, in the order of the table,
+    and their lists and optional parts, each once."""
 
-    def __init__(self, table, at, root):
-        names = cycle(table, root)
-        self.table, self.at, self.root = table, at, table.by_name[root]
+    def __init__(self, table, at):
+        names = cycle(table, ROOT)
+        self.table, self.at, self.root = table, at, table.by_name[ROOT]
         self.kinds = [kind for kind in table.kinds if kind.name in names]
         self.structs = [kind for kind in self.kinds if kind.form == "struct"]
-        self.crate = at[root].crate
         self.views = {name: view for it in TREES for name, view in views(it).items()}
-        for name in names:
-            plain = root if name in INLINE else name
-            self.views[name] = View(f"{snake(name)}_view", plain, FILES[root])
-        self.trees = Plain(FILES[root]).text
+        self.views |= {name: View(f"{snake(name)}_view", name, FILE) for name in names}
+        self.trees = Plain(FILE).text
+        parts = [part for kind in self.structs for part in self.parts(kind) if self.is_own(part)]
+        self.own_parts = list({part.held: part for part in parts}.values())
+        self.lists = [part for part in self.own_parts if part.is_list]
+        self.optional = [part for part in self.own_parts if part.is_optional]
 
     def parts(self, kind):
         """The fields of a struct, or the variants of an enum."""
@@ -67,10 +76,21 @@ class Cycle:
         """Whether a part is a list or an optional part of the cycle, with functions of its own."""
         return self.has(part) and part.held in OWN
 
-    def own_parts(self):
-        """The lists and optional parts of the cycle, each once."""
-        parts = [part for kind in self.structs for part in self.parts(kind) if self.is_own(part)]
-        return list({part.held: part for part in parts}.values())
+    def is_spanned(self, part):
+        """Whether each value of a part has its span."""
+        return self.table.by_name[part.item].is_spanned
+
+    def node(self, part):
+        """The type of each value of a part in the library."""
+        return f"{part.item}{'Node' * self.is_spanned(part)}"
+
+    def split(self, kind):
+        """Whether the lemma about a layer takes its parts, since some may be left out."""
+        return any(self.is_own(part) and part.is_optional for part in self.parts(kind))
+
+    def rolled(self, kind):
+        """The lemma about a layer, at its arguments."""
+        return f"{snake(kind.name)}_roll{' _' * (len(kind.parts) if self.split(kind) else 1)}"
 
     def stem(self, held):
         """What the functions and lemmas of a type are named by."""
@@ -127,12 +147,18 @@ class Cycle:
         """A value of a type as plain data."""
         return self.as_own(held, self.seen(held, place))
 
-    def made(self, kind, values):
-        """The plain tree of a struct of the cycle, whose parts are given by their names."""
+    def tree(self, kind, values):
+        """The plain tree of a struct of the cycle, whose parts are given by their names, without
+        attributes that are apart."""
         maker, *names = CONSTRUCTED[kind.name].split()
         given = {RENAMED.get(name, name): bracketed(value) for name, value in values.items()}
-        tree = " ".join([f"plain.{maker}", *(given[name] for name in names)])
-        return f"with_attributes {given['attributes']} ({tree})" if is_apart(kind) else tree
+        return " ".join([f"plain.{maker}", *(given[name] for name in names)])
+
+    def made(self, kind, values):
+        """The plain tree of a struct of the cycle, with its attributes."""
+        tree = self.tree(kind, values)
+        return (f"with_attributes {bracketed(values['attributes'])} ({tree})" if is_apart(kind)
+                else tree)
 
     def type(self, held):
         """A type as the definitions write it; a list of the cycle is not a vector."""
@@ -142,6 +168,28 @@ class Cycle:
         if part.is_list:
             return f"List {bracketed}" if self.is_own(part) else f"Vec {bracketed} Global"
         return f"Option {bracketed}" if part.is_optional else item
+
+    def uses(self, words):
+        """The lines that import the types of the crate that are among words."""
+        found = {}
+        for name in words & set(self.at):
+            if self.at[name].crate == self.at[ROOT].crate:
+                found.setdefault(f"crate::{self.at[name].module}", []).append(name)
+        return use_lines(found)
+
+    def file(self, head, body, modules, others, *uses):
+        """A file of definitions or proofs, which uses names of modules, and others."""
+        lines = [*imports(body, self, modules, others), *(f"use {it}" for it in uses)]
+        return "\n".join([f"-- {head}", *lines, "", body])
+
+    def invariants(self, head, invariant, modules, others, given):
+        """The file of the invariants of the loops over lists: of the name and what is said of
+        each, where the module of what is given has their types."""
+        lines = []
+        for part in self.lists:
+            name, said = invariant(part)
+            lines += [f"abbrev pub {name} : goal.{name}", f"{name} l = {said}", ""]
+        return self.file(head, "\n".join(lines), modules, others, f"{given}.Given as goal")
 
 
 def imports(text, cycle, modules, others):

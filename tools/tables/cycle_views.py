@@ -8,7 +8,7 @@ from pathlib import Path
 from string import ascii_lowercase
 
 import inputs
-from cycle_parts import LIBRARY, Cycle, imports
+from cycle_parts import COMMON, CRATE, DECLARED, LAYERS, LIBRARY, ROOT, STATEMENTS, Cycle
 from node_specs import cycle as names_of
 from node_table import TABLE, Table, snake
 from plain_trees import OWN, constructor, is_apart
@@ -19,8 +19,8 @@ READS = (inputs.NODES, inputs.TREES, inputs.SOURCES, inputs.VIEWS, "crates/wgsl_
 WRITES = ("crates/wgsl_tree_statement/specs/View.antt",
           "crates/wgsl_tree_statement/proofs/Views.antt")
 
-ROOTS = ["Statement"]
-WRITTEN = f"-- Written by tools/tables/cycle_views.py from {TABLE}"
+FOLDER = Path("crates/wgsl_tree_statement")
+WRITTEN = f"Written by tools/tables/cycle_views.py from {TABLE}"
 PRELUDE = ["Bool", "List", "[]", "◌∷◌", "Option", "None", "Some", "map", "◌≡◌", "refl", "sym",
            "◌∙◌", "ap"]
 SEEN = ["Rattle.wgsl_model.specs.Trees.Attributed", "Rattle.wgsl_span.specs.Spanned",
@@ -147,7 +147,6 @@ class Views:
     def text(self):
         """The file."""
         cycle, fold = self.cycle, self.fold
-        root = cycle.root.name
         kinds = [cycle.table.by_name[name] for name in fold.names]
         body = "\n".join([
             *self.nodes(), "-- a layer whose parts are plain data",
@@ -155,18 +154,16 @@ class Views:
             "-- one layer of each type", *map(self.step, kinds), self.viewed(),
             "-- each type: a fold of its layers", *map(self.view, kinds), *self.spanned()])
         others = {"Rattle.std.specs.Prelude": PRELUDE, **LIBRARY}
-        declared = f"{cycle.at[root].declared}.{root}"
-        return "\n".join([
-            f"{WRITTEN}: nodes as plain data.", *imports(body, cycle, SEEN, others),
-            f"use Rattle.wgsl_model.specs.{cycle.views[root].file} as plain",
-            f"use {declared}.TheOpen as layer", f"use {declared}.TheFolds as folds",
-            *self.passed_on(), "", body])
+        head, blank, rest = cycle.file(
+            f"{WRITTEN}: nodes as plain data.", body, SEEN, others, f"{STATEMENTS} as plain",
+            f"{DECLARED}.TheOpen as layer", f"{DECLARED}.TheFolds as folds").partition("\n\n")
+        return "\n".join([head, *self.passed_on()]) + blank + rest
 
     def passed_on(self):
         """Which variant a plain tree is, as a part of this module."""
         held = [part for part in self.cycle.parts(self.cycle.root) if part.held]
         names = [f"is_{snake(part.name)}" for part in held]
-        for line in ghost_uses(f"wgsl_tree_{self.cycle.crate}.specs.VariantsNodes", names):
+        for line in ghost_uses("wgsl_tree_statement.specs.VariantsNodes", names):
             yield "pub " + line.removeprefix("ghost ").removesuffix(";")
 
 
@@ -207,29 +204,22 @@ class Lemmas:
         if part.is_list and self.cycle.is_own(part):
             seen += ".items"
         shown = self.cycle.as_own(part.held, seen)
-        if part.is_optional and self.cycle.is_own(part) and self.is_spanned(part):
+        if part.is_optional and self.cycle.is_own(part) and self.cycle.is_spanned(part):
             return f"{self.cycle.stem(part.held)}_view {place}"
         return f"plain.{shown}" if shown != seen else shown
-
-    def is_spanned(self, part):
-        return self.cycle.table.by_name[part.item].is_spanned
 
     def whole(self, kind, front):
         """The plain tree of a layer whose parts are at a place."""
         return self.cycle.made(kind, {part.name: self.part(part, f"{front}{part.name}")
                                       for part in self.cycle.parts(kind)})
 
-    def split(self, kind):
-        """Whether the lemma about a layer takes its parts, since some may be left out."""
-        return any(self.cycle.is_own(part) and part.is_optional for part in self.cycle.parts(kind))
-
     def rolled(self, kind, view):
         """What the view of one layer is."""
         name, roll, fold = f"{snake(kind.name)}_roll", f"layers.roll-{kind.name}", \
             f"for_views folds.fold-roll-{kind.name}"
-        if not self.split(kind):
+        if not self.cycle.split(kind):
             nodes = [part for part in self.cycle.parts(kind)
-                     if part.is_list and self.cycle.is_own(part) and self.is_spanned(part)]
+                     if part.is_list and self.cycle.is_own(part) and self.cycle.is_spanned(part)]
             values = {part.name: f"nodes_seen x.{part.name}.items i" if part in nodes
                       else self.part(part, f"x.{part.name}") for part in self.cycle.parts(kind)}
             more = f" ∙ (λ i. {self.cycle.made(kind, values)})" if nodes else ""
@@ -258,7 +248,7 @@ class Lemmas:
         """What the view of a node is, from its layer."""
         name, out = snake(kind.name), f"layers.out-{kind.name} x"
         arguments = f"({out})"
-        if self.split(kind):
+        if self.cycle.split(kind):
             arguments = " ".join(f"({out}).{part.name}" for part in self.cycle.parts(kind))
         return (f"pub {name}_out : (x : {kind.name}) → {view} x ≡ {self.whole(kind, f'({out}).')}\n"
                 f"{name}_out x = ap {view} (sym (layers.roll-out-{kind.name} x))"
@@ -297,14 +287,13 @@ class Lemmas:
     def text(self):
         """The file."""
         cycle, fold = self.cycle, self.fold
-        root, crate = cycle.root.name, f"Rattle.wgsl_tree_{cycle.crate}"
         body = ["-- a layer of the types themselves",
                 f"abbrev pub Opened : ({fold.bound} → Type 0) → Type 0",
                 f"Opened F = F {' '.join(fold.names)}\n",
                 "-- a law of all folds, for the folds that the views are", self.for_views(),
                 "-- a spanned node, seen through its box", self.seen_nodes()]
-        for part in cycle.own_parts():
-            if part.is_optional and self.is_spanned(part):
+        for part in cycle.optional:
+            if cycle.is_spanned(part):
                 view = f"{cycle.stem(part.held)}_view"
                 body.append(f"-- a node that may be left out\nabbrev pub {view} : "
                             f"{cycle.type(part.held)} → plain.{OWN[part.held][0]}\n{view} part = "
@@ -314,17 +303,12 @@ class Lemmas:
             body += [self.rolled(kind, view), self.opened(kind, view)]
         variants = [self.variant(cycle.root, part) for part in cycle.parts(cycle.root)]
         body += ["-- of a variant", *variants, *self.rulesets()]
-        text = "\n".join(body)
-        others = {"Rattle.std.proofs.Common": PRELUDE, **LIBRARY}
-        declared = f"{cycle.at[root].declared}.{root}"
-        return "\n".join([
-            f"{WRITTEN}: what each view is of one layer, and of each variant.",
-            *imports(text, cycle, [*SEEN, f"{crate}.specs.View"], others),
-            f"use Rattle.wgsl_model.specs.{cycle.views[root].file} as plain",
-            *(f"use {declared}.{it}" for it in (
-                "TheOpen as layer", "TheFolds as folds", "TheViews as layers",
-                "TheVariants as variant", f"TheViews.{{roll-{root}}}")),
-            "use denote.Hole.Carrier as Carrier", "", text])
+        uses = [f"{DECLARED}.{it}" for it in ("TheOpen as layer", "TheFolds as folds")]
+        uses += [LAYERS, f"{DECLARED}.TheVariants as variant",
+                 f"{DECLARED}.TheViews.{{roll-{ROOT}}}", "denote.Hole.Carrier as Carrier"]
+        return cycle.file(f"{WRITTEN}: what each view is of one layer, and of each variant.",
+                          "\n".join(body), [*SEEN, f"{CRATE}.specs.View"],
+                          {COMMON: PRELUDE, **LIBRARY}, f"{STATEMENTS} as plain", *uses)
 
 
 def record(values):
@@ -333,9 +317,6 @@ def record(values):
 
 
 def main():
-    table, at = Table(), places()
-    for root in ROOTS:
-        cycle = Cycle(table, at, root)
-        folder = Path(f"crates/wgsl_tree_{cycle.crate}")
-        (folder / "specs/View.antt").write_text(Views(cycle).text())
-        (folder / "proofs/Views.antt").write_text(Lemmas(cycle).text())
+    cycle = Cycle(Table(), places())
+    (FOLDER / "specs/View.antt").write_text(Views(cycle).text())
+    (FOLDER / "proofs/Views.antt").write_text(Lemmas(cycle).text())

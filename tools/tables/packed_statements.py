@@ -256,7 +256,7 @@ def source(equations, cycle):
     words = set(re.findall(r"\w+", text))
     own = {"packed_block", "packed_unended_of"}
     forms = {it for it in words if it.startswith("packed_")} - own
-    makers = [it for it in (cycle.made_of(part.held) for part in cycle.own_parts()) if it in words]
+    makers = [it for it in (cycle.made_of(part.held) for part in cycle.own_parts) if it in words]
     views = {it for it in words if it.endswith("_view")}
     ghosts = ["Rattle.std.specs.Prelude.{◌≡◌, ◌++◌, map, OnOk}",
               "Rattle.std.specs.Option.{option_map}", f"{TREES}.Statements as plain",
@@ -289,6 +289,6 @@ def definition(equations):
 
 def main():
     table = Table()
-    equations, cycle = Equations(table), Cycle(table, places(), ROOT)
+    equations, cycle = Equations(table), Cycle(table, places())
     (CRATE / "src/statement.rt").write_text(source(equations, cycle))
     (CRATE / "specs/Ended.antt").write_text(definition(equations))

@@ -12,7 +12,7 @@ from cycle_parts import Cycle, Part
 from names_defined import PLAIN, Defined, clauses_in, owners, uses
 from node_table import TABLE, Table
 from plain_trees import constructor, is_apart, short
-from renamed_cycle import answers_of, invariants_of, seen_by, whole
+from renamed_cycle import Answers, invariants_of, seen_by, whole
 from tree_nodes import COPIED, ghost_uses, places
 
 READS = (inputs.NODES, inputs.TREES, inputs.NAMES, inputs.SOURCES, inputs.VIEWS,
@@ -200,10 +200,9 @@ class Renames:
 
     def own_function(self, part):
         """The function that copies a list or a part that may be left out."""
-        kind = self.table.by_name[part.item]
-        item = f"{part.item}Node" if kind.is_spanned else part.item
+        item = self.cycle.node(part)
         first, copy = "", f"renamed_{self.cycle.stem(part.item)}(node, names, alloc)?"
-        if kind.is_spanned:
+        if self.cycle.is_spanned(part):
             first = f"let copy = {copy.replace('(node,', '(node.node(),')};"
             copy = "Spanned::new(alloc, copy, node.span())?"
         given, made = f"Option<{item}>", f"Option<{item}>"
@@ -242,8 +241,8 @@ class Renames:
     def code(self):
         """The file of the functions."""
         texts = [it for kind in self.kinds for it in self.functions(kind)]
-        if self.crate == self.cycle.crate:
-            texts += map(self.own_function, self.cycle.own_parts())
+        if self.crate == "statement":
+            texts += map(self.own_function, self.cycle.own_parts)
         text = "\n".join(texts)
         heads = list(self.heads(text))
         text = text.replace("= { Spanned ", "= { plain_spanned.Spanned ")
@@ -272,7 +271,7 @@ def write(path, text):
 
 def main():
     table, at = Table(), places()
-    cycle = Cycle(table, at, "Statement")
+    cycle = Cycle(table, at)
     for crate in PLAIN:
         renames = Renames(table, crate, at, cycle)
         write(CRATE / f"src/{crate}_nodes.rt", renames.code())
@@ -281,5 +280,5 @@ def main():
                 path = f"proofs/{crate}_nodes/{kind.name}Rename/renamed/Answers.antt"
                 write(CRATE / path, renames.answers(kind))
     folder = CRATE / "proofs/statement_nodes/+statements"
-    write(folder / "Answers.antt", answers_of(cycle))
+    write(folder / "Answers.antt", Answers(cycle).text())
     write(folder / "Invariants.antt", invariants_of(cycle))

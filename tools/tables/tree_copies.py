@@ -9,7 +9,7 @@ from pathlib import Path
 
 import goals
 import inputs
-from cycle_copies import ROOTS, answers_of_cycle, own_functions
+from cycle_copies import answers_of_cycle, own_functions
 from cycle_parts import Cycle, Part
 from goals import c, proof
 from node_table import TABLE, Table
@@ -38,7 +38,7 @@ class Copies:
         self.views |= views("expression")
         self.kinds = [kind for kind in table.kinds
                       if at[kind.name].crate == crate and kind.name not in COPIED]
-        self.cycle = Cycle(table, at, ROOTS[crate]) if crate in ROOTS else None
+        self.cycle = Cycle(table, at) if crate == "statement" else None
 
     def is_plain(self, held):
         """Whether a value is copied without an allocator."""

@@ -8,11 +8,11 @@ from pathlib import Path
 
 import goals
 import inputs
-from cycle_parts import LIBRARY, Cycle, imports
+from cycle_parts import COMMON, CRATE, LAYERS, LIBRARY, ROOT, STATEMENTS, Cycle
 from goals import c, proof, then, unless, w
 from node_table import TABLE, Table, snake
 from plain_trees import coded
-from tree_nodes import ghost_uses, places, use_lines
+from tree_nodes import ghost_uses, places
 from tree_terms import bracketed
 
 READS = (inputs.NODES, inputs.TREES, inputs.SOURCES, inputs.VIEWS,
@@ -23,10 +23,9 @@ WRITES = ("crates/wgsl_tree_statement/src/equality_nodes.rt",
           "crates/wgsl_tree_statement/proofs/EqualityNodes.antt",
           "crates/wgsl_tree_statement/proofs/equality_nodes/+equal/*.antt")
 
-ROOTS = ["Statement"]
+FOLDER = Path("crates/wgsl_tree_statement")
 WRITTEN = f"Written by tools/tables/tree_equalities.py from {TABLE}"
-COMMON = "Rattle.std.proofs.Common"
-SIMPLE = "Rattle.wgsl_tree_simple.proofs.Equalities"
+GOALS = f"{CRATE}.proofs.equality_nodes.+equal"
 SAME = re.compile(r"^pub (\w+_same) : \(a b : (\w+)\)", re.M)
 
 
@@ -88,9 +87,7 @@ class Code:
 
     def function(self, part):
         """The test of a list or of a part that may be left out."""
-        kind = self.cycle.table.by_name[part.item]
-        item = f"{part.item}Node" if kind.is_spanned else part.item
-        node = ".node()" if kind.is_spanned else ""
+        item, node = self.cycle.node(part), ".node()" * self.cycle.is_spanned(part)
         of = [self.cycle.code(part.held, f"{it}.now") for it in "ab"]
         type_ = f"&[{item}]" if part.is_list else f"&Option<{item}>"
         body = (f"match a {{ None => b.is_none(), Some(a) => match b {{ None => false, "
@@ -106,30 +103,23 @@ class Code:
     def text(self):
         """The file of the functions."""
         cycle = self.cycle
-        kinds, own = cycle.kinds, cycle.own_parts()
-        body = "\n".join([*map(self.impl, kinds), *map(self.function, own)])
+        body = "\n".join([*map(self.impl, cycle.kinds), *map(self.function, cycle.own_parts)])
         words = set(re.findall(r"\w+", body))
         codes = sorted(it for it in words if it.endswith("_code") and it != "attributed_code")
         seen = sorted(it for it in words if it.endswith("_view"))
-        made = sorted(cycle.made_of(it.held) for it in own if cycle.made_of(it.held) in words)
+        made = sorted({cycle.made_of(it.held) for it in cycle.own_parts} & words)
         whole = [it for it in ("attributed_code", "list") if it in words]
-        uses = {}
-        for name in sorted(words & set(cycle.at)):
-            place = cycle.at[name]
-            if place.crate == cycle.crate and "." not in name:
-                uses.setdefault(f"crate::{place.module}", []).append(name)
         return "\n".join([
             f"//! {WRITTEN}: `==` of nodes.", "",
-            "ghost use Rattle.std.specs.Cmp.{on_per};", 
+            "ghost use Rattle.std.specs.Cmp.{on_per};",
             "ghost use Rattle.std.specs.Option.{option_map};",
             "ghost use Rattle.std.specs.Prelude.{◌≡◌, map};",
-            *ghost_uses(f"wgsl_model.specs.{cycle.views[cycle.root.name].file}", made),
+            *ghost_uses(STATEMENTS.removeprefix("Rattle."), made),
             *ghost_uses("wgsl_tree_code.specs.Code", whole),
             "ghost use Rattle.wgsl_tree_code.specs.Laws.{same_partial};",
             "ghost use Rattle.wgsl_tree_code.specs.Same.{same};",
-            *ghost_uses(f"wgsl_tree_code.specs.{cycle.root.name}Nodes", codes),
-            *ghost_uses(f"wgsl_tree_{cycle.crate}.specs.View", seen), "", *use_lines(uses), "",
-            body])
+            *ghost_uses(f"wgsl_tree_code.specs.{ROOT}Nodes", codes),
+            *ghost_uses("wgsl_tree_statement.specs.View", seen), "", *cycle.uses(words), "", body])
 
 
 class Lemmas:
@@ -173,8 +163,8 @@ class Lemmas:
         """The codes of the items of a list, and that they are compared."""
         stem, view = self.cycle.stem(part.held), self.cycle.view(part.item)
         type_, item = self.cycle.type(part.held), self.cycle.type(part.item)
-        spanned = self.cycle.table.by_name[part.item].is_spanned
-        code = coded(f"{part.item}Node") if spanned else self.cycle.whole_code(part.item)
+        code = (coded(f"{part.item}Node") if self.cycle.is_spanned(part)
+                else self.cycle.whole_code(part.item))
         listed = f"{stem}_code ({self.cycle.shown(part.held, 'xs')})"
         return (f"abbrev pub {stem}_item : {item} → Code\n{stem}_item x = {code} ({view} x)\n\n"
                 f"{stem}_listed : (xs : {type_}) → {listed} ≡ codes_of {stem}_item xs\n"
@@ -188,27 +178,20 @@ class Lemmas:
     def text(self):
         """The file of the lemmas."""
         cycle = self.cycle
-        crate = f"Rattle.wgsl_tree_{cycle.crate}"
         helds = {part.held: 0 for kind in cycle.structs for part in cycle.parts(kind)}
-        lists = [part for part in cycle.own_parts() if part.is_list]
         body = "\n".join(["-- the parts, compared", *map(self.part, helds),
                           *map(self.struct, cycle.structs),
-                          "-- the codes of items of lists", *map(self.items, lists)])
+                          "-- the codes of items of lists", *map(self.items, cycle.lists)])
         others = {COMMON: ["Bool", "◌&&◌", "List", "[]", "◌∷◌", "Option", "map", "◌≡◌", "refl",
                            "◌∙◌", "ap"], **LIBRARY}
         codes = "Rattle.wgsl_tree_code.specs"
         modules = [
-            f"Rattle.wgsl_model.specs.{cycle.views[cycle.root.name].file}",
-            f"{codes}.Code", f"{codes}.Same", f"{codes}.Lists", f"{codes}.ExpressionNodes",
-            f"{codes}.AttributeNodes", f"{codes}.StatementNodes",
+            STATEMENTS, *(f"{codes}.{it}" for it in ("Code", "Same", "Lists", "ExpressionNodes",
+                                                     "AttributeNodes", "StatementNodes")),
             "Rattle.wgsl_tree_expression.specs.View", "Rattle.wgsl_tree_attribute.specs.View",
-            "Rattle.wgsl_tree_simple.specs.View", f"{crate}.specs.View",
-            f"{crate}.proofs.Views", f"{crate}.proofs.Equalities"]
-        root = cycle.root.name
-        return "\n".join([
-            f"-- {WRITTEN}: `==`, part by part.",
-            *imports(body, cycle, modules, others),
-            f"use {cycle.at[root].declared}.{root}.TheViews as layers", "", body])
+            "Rattle.wgsl_tree_simple.specs.View", f"{CRATE}.specs.View",
+            f"{CRATE}.proofs.Views", f"{CRATE}.proofs.Equalities"]
+        return cycle.file(f"{WRITTEN}: `==`, part by part.", body, modules, others, LAYERS)
 
 
 def chain(count):
@@ -342,10 +325,8 @@ class Answers:
     def text(self):
         """The file of the proofs."""
         cycle = self.cycle
-        crate = f"Rattle.wgsl_tree_{cycle.crate}"
-        lists = [part for part in cycle.own_parts() if part.is_list]
         texts = [it for kind in cycle.structs for it in self.struct(kind)]
-        texts += [it for part in lists for it in self.listed(part)]
+        texts += [it for part in cycle.lists for it in self.listed(part)]
         body = "\n".join([*texts, "-- the kinds of statements", *self.variants()])
         others = {COMMON: ["rules", "◌≡◌", "true", "false", "refl", "sym", "◌∙◌", "◌&&◌"]}
         codes = "Rattle.wgsl_tree_code.specs"
@@ -353,41 +334,31 @@ class Answers:
                                               "StatementNodes")]
         modules += [f"Rattle.wgsl_tree_{it}.specs.View" for it in ("expression", "simple")]
         modules += [f"Rattle.wgsl_tree_{it}.proofs.Equalities" for it in ("attribute", "simple")]
-        modules += [f"{crate}.{it}" for it in (
+        modules += [f"{CRATE}.{it}" for it in (
             "specs.View", "proofs.Views", "proofs.BlockStatements",
             "proofs.Equalities", "proofs.EqualityNodes")]
-        place = f"{crate}.proofs.equality_nodes.+equal.Goals"
         branches = [goals.at(eq_of(kind), way(step.test)) for kind in cycle.structs
                     for step in steps(cycle, kind)[:-2] for way in (then, unless)]
-        root = cycle.root.name
-        return "\n".join([
-            f"-- {WRITTEN}.", *imports(body, cycle, modules, others),
-            f"use {cycle.at[root].declared}.{root}.TheViews as layers",
-            f"use {place} as goal", f"use {place}.{{{', '.join(branches)}}}", "", body])
+        return cycle.file(f"{WRITTEN}.", body, modules, others, LAYERS, f"{GOALS}.Goals as goal",
+                          f"{GOALS}.Goals.{{{', '.join(branches)}}}")
 
-    def invariants(self):
-        """The invariants of the loops: what is left to compare."""
-        crate = f"Rattle.wgsl_tree_{self.cycle.crate}.proofs"
-        stems = [self.cycle.stem(it.held) for it in self.cycle.own_parts() if it.is_list]
-        lines = [f"-- {WRITTEN}.", f"use {COMMON}.{{◌≡◌, drop}}",
-                 "use Rattle.wgsl_tree_code.specs.Lists.{all_same}",
-                 f"use {crate}.EqualityNodes.{{{', '.join(f'{it}_item' for it in stems)}}}",
-                 f"use {crate}.equality_nodes.+equal.Given as goal"]
-        for stem in stems:
-            name, same = goals.invariant(f"{stem}_equal", "items"), f"all_same {stem}_item"
-            lines += ["", f"abbrev pub {name} : goal.{name}",
-                      f"{name} l = {same} l.a l.b ≡ {same} (drop l.i l.a) (drop l.i l.b)"]
-        return "\n".join([*lines, ""])
+    def invariant(self, part):
+        """The invariant of the loop over a list: what is left to compare."""
+        stem = self.cycle.stem(part.held)
+        same = f"all_same {stem}_item"
+        return (goals.invariant(f"{stem}_equal", "items"),
+                f"{same} l.a l.b ≡ {same} (drop l.i l.a) (drop l.i l.b)")
 
 
 def main():
-    table, at = Table(), places()
-    for root in ROOTS:
-        cycle = Cycle(table, at, root)
-        folder, answers = Path(f"crates/wgsl_tree_{cycle.crate}"), Answers(cycle)
-        proofs = folder / "proofs/equality_nodes/+equal"
-        proofs.mkdir(parents=True, exist_ok=True)
-        (folder / "src/equality_nodes.rt").write_text(Code(cycle).text())
-        (folder / "proofs/EqualityNodes.antt").write_text(Lemmas(cycle).text())
-        (proofs / "Answers.antt").write_text(answers.text())
-        (proofs / "Invariants.antt").write_text(answers.invariants())
+    cycle = Cycle(Table(), places())
+    answers, proofs = Answers(cycle), FOLDER / "proofs/equality_nodes/+equal"
+    proofs.mkdir(parents=True, exist_ok=True)
+    (FOLDER / "src/equality_nodes.rt").write_text(Code(cycle).text())
+    (FOLDER / "proofs/EqualityNodes.antt").write_text(Lemmas(cycle).text())
+    (proofs / "Answers.antt").write_text(answers.text())
+    items = [f"{cycle.stem(part.held)}_item" for part in cycle.lists]
+    others = {COMMON: ["◌≡◌", "drop"], "Rattle.wgsl_tree_code.specs.Lists": ["all_same"],
+              f"{CRATE}.proofs.EqualityNodes": items}
+    (proofs / "Invariants.antt").write_text(
+        cycle.invariants(f"{WRITTEN}.", answers.invariant, [], others, GOALS))

@@ -8,11 +8,11 @@ from pathlib import Path
 
 import goals
 import inputs
-from cycle_parts import LIBRARY, Cycle, imports
+from cycle_parts import COMMON, CRATE, DECLARED, LAYERS, LIBRARY, STATEMENTS, Cycle
 from goals import c, proof
 from node_table import TABLE, Table, snake
 from plain_trees import OWN, constructor, is_apart
-from tree_nodes import Plain, ghost_uses, places, use_lines
+from tree_nodes import Plain, ghost_uses, places
 from tree_terms import bracketed
 
 READS = (inputs.NODES, inputs.TREES, inputs.SOURCES, inputs.VIEWS,
@@ -22,15 +22,14 @@ READS = (inputs.NODES, inputs.TREES, inputs.SOURCES, inputs.VIEWS,
 WRITES = ("crates/wgsl_tree_statement/src/voids_nodes.rt",
           "crates/wgsl_tree_statement/proofs/+remove/*.antt")
 
-CRATE = Path("crates/wgsl_tree_statement")
+FOLDER = Path("crates/wgsl_tree_statement")
+GOALS = f"{CRATE}.proofs.+remove"
 WRITTEN = f"Written by tools/tables/tree_voids.py from {TABLE}"
 # what is known of the call that a function has for an item
 CALL = c.of("remove_voids")
 # the kinds from which others remove empty statements
 PUBLIC = ["Statement", "CompoundStatement"]
-COMMON = "Rattle.std.proofs.Common"
 EMPTY = "Rattle.wgsl_model.specs.Trees.EmptyItems"
-HERE = "Rattle.wgsl_tree_statement"
 
 
 class Full:
@@ -63,7 +62,6 @@ class Code:
 
     def __init__(self, cycle, full):
         self.cycle, self.full = cycle, full
-        self.structs, self.own = cycle.structs, cycle.own_parts()
 
     def call(self, part):
         """What removes the empty statements from a part of a struct, if it has some."""
@@ -92,9 +90,8 @@ class Code:
 
     def function(self, part):
         """The function of a list or of a part that may be left out."""
-        is_spanned = self.cycle.table.by_name[part.item].is_spanned
-        item = f"{part.item}Node" if is_spanned else part.item
-        node = ".node_mut()" if is_spanned else ""
+        is_spanned, item = self.cycle.is_spanned(part), self.cycle.node(part)
+        node = ".node_mut()" * is_spanned
         type_ = f"&mut {'Vec' if part.is_list else 'Option'}<{item}>"
         body = f"if let Some(node) = part {{ node{node}.remove_voids(); }}"
         if part.is_list:
@@ -109,13 +106,9 @@ class Code:
     def text(self):
         """The file of the functions."""
         cycle = self.cycle
-        body = "\n".join([*map(self.method, [cycle.root, *self.structs]),
-                          *map(self.function, self.own)])
+        body = "\n".join([*map(self.method, [cycle.root, *cycle.structs]),
+                          *map(self.function, cycle.own_parts)])
         words = set(re.findall(r"\w+", body))
-        uses = {}
-        for name in sorted(words & set(cycle.at)):
-            if cycle.at[name].crate == cycle.crate:
-                uses.setdefault(f"crate::{cycle.at[name].module}", []).append(name)
         trees = [it for it in words if it.startswith("changed_") or it.endswith("_of")
                  or it.startswith("maybe_")]
         full = [it for it in words if it.startswith("full_") or it == "without_empty"]
@@ -127,14 +120,14 @@ class Code:
             *ghost_uses("wgsl_model.specs.Trees.EmptyItems", sorted(full)),
             *ghost_uses("wgsl_model.specs.Trees.Statements", sorted(trees)),
             *ghost_uses("wgsl_tree_statement.specs.View", sorted(seen)), "",
-            *use_lines(uses), "", body])
+            *cycle.uses(words), "", body])
 
 
 class Answers:
     """Writes the proofs."""
 
-    def __init__(self, code):
-        self.code, self.cycle, self.full = code, code.cycle, code.full
+    def __init__(self, cycle, full):
+        self.cycle, self.full = cycle, full
 
     def method(self, kind):
         """The path of the function of a kind, which is by the module of that."""
@@ -178,8 +171,7 @@ class Answers:
             f"let {part.name} = {call.ensures()} in" for part, call, _ in calls]
         values = {part.name: f"{part.name} i" if self.cycle.has(part)
                   else self.cycle.shown(part.held, f"original.{part.name}") for part in parts}
-        split = any(self.cycle.is_own(part) and part.is_optional for part in parts)
-        roll = f"{name}_roll{' _' * (len(parts) if split else 1)}"
+        roll = self.cycle.rolled(kind)
         view = self.cycle.views[kind.name].name
         if len(calls) > 1:
             del lines[-3:]
@@ -228,7 +220,7 @@ class Answers:
         one = f"plain.{OWN[part.held][2]}"
         some, none = c.arm("Some"), c.of(goals.DEFAULT).of("is")
         lets, seen = "", CALL.ensures()
-        if cycle.table.by_name[part.item].is_spanned:
+        if cycle.is_spanned(part):
             lets = (f"    let x = {some.of('node')} in\n"
                     "    let y = record x { node = record x.node "
                     f"{{ value = {CALL.new('self')} }} }} in\n"
@@ -241,8 +233,7 @@ class Answers:
 
     def listed(self, part, name, view):
         """That a list is without its empty statements: one item more, and all."""
-        is_spanned = self.cycle.table.by_name[part.item].is_spanned
-        item = "full_node" if is_spanned else self.full.of(part.item)
+        is_spanned, item = self.cycle.is_spanned(part), self.item(part)
         index, items = c.of("index_mut"), c.of("items")
         given, x, y = f"{c.given('part')}.items", index.of("result.now"), CALL.new("self")
         done, before = items.of("part.items"), items.of("invariant")
@@ -266,51 +257,42 @@ class Answers:
                      f"{self.cycle.stem(part.held)}_full (map {view} {given})")
         yield proof(goals.returns(name), f"\n    {whole}")
 
-    def invariants(self):
-        """The invariants of the loops: what is done so far."""
-        lines = []
-        for part in filter(lambda it: it.is_list, self.code.own):
-            name = f"voids_nodes::remove_from_{self.cycle.stem(part.held)}"
-            is_spanned = self.cycle.table.by_name[part.item].is_spanned
-            item = "full_node" if is_spanned else self.full.of(part.item)
-            said = goals.invariant(name, "items")
-            lines += ["", f"abbrev pub {said} : goal.{said}",
-                      f"{said} l = goal.{goals.unvisited(name, 'items')} l × Done "
-                      f"{self.cycle.view(part.item)} {bracketed(item)} l.part.items "
-                      "l.initial.part.items l.i"]
-        body = "\n".join([*lines, ""])
-        modules = [EMPTY, f"{HERE}.specs.View", f"{HERE}.proofs.EmptyStatements"]
-        return "\n".join([f"-- {WRITTEN}.", *imports(body, self.cycle, modules, {}),
-                          f"use {HERE}.proofs.+remove.Given as goal", body])
+    def item(self, part):
+        """What leaves the empty statements out of an item of a list."""
+        return "full_node" if self.cycle.is_spanned(part) else self.full.of(part.item)
+
+    def invariant(self, part):
+        """The invariant of the loop over a list: what is done so far."""
+        name = f"voids_nodes::remove_from_{self.cycle.stem(part.held)}"
+        return (goals.invariant(name, "items"),
+                f"goal.{goals.unvisited(name, 'items')} l × Done {self.cycle.view(part.item)} "
+                f"{bracketed(self.item(part))} l.part.items l.initial.part.items l.i")
 
     def text(self):
         """The file of the proofs."""
         cycle = self.cycle
-        texts = [it for part in self.code.own for it in self.function(part)]
-        body = "\n".join([*map(self.struct, self.code.structs), *texts, *self.variants()])
+        texts = [it for part in cycle.own_parts for it in self.function(part)]
+        body = "\n".join([*map(self.struct, cycle.structs), *texts, *self.variants()])
         others = {COMMON: ["rules", "◌≡◌", "◌∙◌", "sym", "ap", "map", "Option"],
                   "Rattle.std.proofs.lemmas.List.Elements": ["filter_from_retain"],
                   **LIBRARY}
-        others_seen = [f"Rattle.wgsl_tree_{it}.specs.View"
-                       for it in ("expression", "attribute", "simple")]
-        modules = ["Rattle.wgsl_model.specs.Trees.Attributed", EMPTY,
-                   "Rattle.wgsl_model.specs.Trees.Statements", *others_seen,
-                   f"{HERE}.specs.View", f"{HERE}.proofs.Views",
-                   f"{HERE}.proofs.BlockStatements", f"{HERE}.proofs.EmptyStatements"]
-        declared = f"{cycle.at[cycle.root.name].declared}.{cycle.root.name}.TheViews"
-        return "\n".join([
-            f"-- {WRITTEN}.", *imports(body, cycle, modules, others),
-            "use Rattle.wgsl_model.specs.Trees.Statements as plain", f"use {declared} as layers",
-            f"use {declared.removesuffix('TheViews')}TheOpen as layer",
-            f"use {declared}.{{roll-{cycle.root.name}}}", "use denote.Hole.Carrier as Carrier",
-            f"use {HERE}.proofs.+remove.Goals as goal", "", body])
+        seen = [f"Rattle.wgsl_tree_{it}.specs.View"
+                for it in ("expression", "attribute", "simple")]
+        modules = ["Rattle.wgsl_model.specs.Trees.Attributed", EMPTY, STATEMENTS, *seen,
+                   f"{CRATE}.specs.View", f"{CRATE}.proofs.Views",
+                   f"{CRATE}.proofs.BlockStatements", f"{CRATE}.proofs.EmptyStatements"]
+        return cycle.file(f"{WRITTEN}.", body, modules, others, f"{STATEMENTS} as plain", LAYERS,
+                          f"{DECLARED}.TheOpen as layer", f"{DECLARED}.TheViews.{{roll-Statement}}",
+                          "denote.Hole.Carrier as Carrier", f"{GOALS}.Goals as goal")
 
 
 def main():
-    cycle = Cycle(Table(), places(), "Statement")
-    code = Code(cycle, Full(cycle))
-    answers, proofs = Answers(code), CRATE / "proofs/+remove"
+    cycle = Cycle(Table(), places())
+    full = Full(cycle)
+    answers, proofs = Answers(cycle, full), FOLDER / "proofs/+remove"
     proofs.mkdir(parents=True, exist_ok=True)
-    (CRATE / "src/voids_nodes.rt").write_text(code.text())
+    (FOLDER / "src/voids_nodes.rt").write_text(Code(cycle, full).text())
     (proofs / "Answers.antt").write_text(answers.text())
-    (proofs / "Invariants.antt").write_text(answers.invariants())
+    modules = [EMPTY, f"{CRATE}.specs.View", f"{CRATE}.proofs.EmptyStatements"]
+    (proofs / "Invariants.antt").write_text(
+        cycle.invariants(f"{WRITTEN}.", answers.invariant, modules, {}, GOALS))
