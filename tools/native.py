@@ -65,5 +65,8 @@ class Library:
         kept = ctypes.create_string_buffer(1)
         return self.call("minify", text, before=[c_uint32(names), kept, c_size_t(0)])
 
+    def tree(self, text, kind):
+        return self.call("tree", text, before=[c_uint32(kind)])
+
     def packed_tree(self, text, kind):
         return self.call("packed_tree", text, before=[c_uint32(kind)])

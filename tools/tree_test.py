@@ -3,7 +3,6 @@ tools/library_tests: of each text of a tree in tests/rows, and of each shader of
 
 The JSON is taken apart by crates/wgsl_model/nodes alone, without the data of the packed form.
 """
-import io
 import json
 import re
 import struct
@@ -11,6 +10,7 @@ import subprocess
 import sys
 from pathlib import Path
 
+from native import DONE
 from row_files import rows_of
 
 TOP = Path(__file__).resolve().parent.parent
@@ -48,25 +48,15 @@ def texts():
     return list(dict.fromkeys([*found, *((0, shader.read_bytes()) for shader in shaders)]))
 
 
-def trees(program):
-    """The texts that are trees, each with the number of its kind, its packed form and its JSON, as
-    tools/library_packed.c writes them."""
-    given = texts()
-    ran = subprocess.run([program], capture_output=True,
-                         input=b"".join(struct.pack("<QQ", number, len(text)) + text
-                                        for number, text in given))
-    if ran.returncode:
-        sys.exit(f"tools/library_packed.c ends with {ran.returncode}, the line of a check")
-    written, found = io.BytesIO(ran.stdout), []
-    for number, text in given:
-        if read_number(written) == 0:
-            form, form_of_json = (written.read(read_number(written)) for _ in range(2))
-            found.append((number, text, form, form_of_json.decode()))
-    return found
-
-
-def read_number(written):
-    return struct.unpack("<Q", written.read(8))[0]
+def trees(library):
+    """The texts that are trees, each with the number of its kind, its packed form and its JSON."""
+    for number, text in texts():
+        form = library.packed_tree(text, number)
+        if form.status == DONE:
+            tree = library.tree(text, number)
+            if tree.status != DONE:
+                sys.exit(f"a text has a packed form and no JSON:\n{text.decode()}")
+            yield number, text, form.written, tree.written.decode()
 
 
 def packed(forms):
