@@ -1,5 +1,6 @@
 """Compares the trees that bindings/web/tree.js reads with the JSON that the library writes, for
-tools/library_tests: of each text of a tree in tests/rows, and of each shader of the repository.
+tools/library_tests: of each text of a tree in tests/rows, and of each shader of the repository. The
+JSON of one of these has to have each rule and each attribute.
 
 The JSON is taken apart by crates/wgsl_model/nodes alone, without the data of the packed form.
 """
@@ -15,12 +16,16 @@ from row_files import rows_of
 
 TOP = Path(__file__).resolve().parent.parent
 sys.path.append(str(TOP / "tools" / "tables"))
+import packed_rules  # noqa: E402
 from node_table import Table  # noqa: E402
 
 # the words of rows by which trees are read, in the order of their numbers, and their kinds
 KINDS = {"unit": "TranslationUnit", "directive": "GlobalDirective",
          "declaration": "GlobalDeclaration", "statement": "Statement", "expression": "Expression"}
 SHADERS = ["examples", "bindings/rust/tests"]
+# a module with each variant, and how the JSON of rules begins that have no name
+EVERY_KIND = TOP / "bindings" / "rust" / "tests" / "every_kind.wgsl"
+UNNAMED = ('"', '{"', '["', '{"span":')
 # the longest text of a row that is tried: its JSON may nest as deep as it is long
 LONGEST = 4000
 DEEPEST = 50_000
@@ -57,6 +62,19 @@ def trees(library):
             if tree.status != DONE:
                 sys.exit(f"a text has a packed form and no JSON:\n{text.decode()}")
             yield number, text, form.written, tree.written.decode()
+
+
+def lacking(library):
+    """What the JSON of the module with each variant lacks: how that of a rule with a name begins,
+    and the words of attributes that are alone or have an expression."""
+    tree = library.tree(EVERY_KIND.read_bytes(), list(KINDS).index("unit")).written.decode()
+    begins = [re.split("[$#%&?]", rule.json)[0] for rule in packed_rules.read()]
+    table = Table()
+    words = table.attribute_words()
+    wanted = [it for it in begins if '"' in it and it not in UNNAMED]
+    wanted += [f'"{words[name]}"' for name, held in table.by_name["Attribute"].parts
+               if held in ("Expression", "")]
+    return [it for it in dict.fromkeys(wanted) if it not in tree]
 
 
 def packed(forms):

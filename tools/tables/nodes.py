@@ -1,6 +1,6 @@
 """Writes what follows from the fields of the nodes alone: the lists of docs/TREE.md, the types and
-the lists of nodes of the Rust crate, for its tests a text with the example of each variant and what
-prints are read as, and the variants that tools/library_kinds.c looks for.
+the lists of nodes of the Rust crate, and for its tests a text with the example of each variant and
+what prints are read as.
 
 It fails if a type of the library differs.
 """
@@ -14,11 +14,10 @@ from node_table import TABLE, Table, check, snake
 READS = (inputs.NODES, inputs.SOURCES)
 WRITES = ("docs/TREE.md", "bindings/rust/src/words.rs", "bindings/rust/src/*/node_*.rs",
           "bindings/rust/src/syntax/*/node_*.rs", "bindings/rust/tests/every_kind.wgsl",
-          "bindings/rust/tests/node_prints/mod.rs", "tools/library_kinds.c")
+          "bindings/rust/tests/node_prints/mod.rs")
 
 DOCUMENT = Path("docs/TREE.md")
 RUST = Path("bindings/rust/src")
-KINDS = Path("tools/library_kinds.c")
 TEXT = Path("bindings/rust/tests/every_kind.wgsl")
 WRITTEN = f"written by tools/tables/nodes.py from {TABLE}."
 # the enums that have no name, although what a variant holds has one
@@ -249,16 +248,6 @@ def write_text(table):
     fill(TEXT, f"// Examples of the variants, {WRITTEN}\n", "\n".join(lines), "\n// What they lack")
 
 
-def write_words(table):
-    """The words of the attributes with an expression, and of those that are a name, for C."""
-    words = table.attribute_words()
-    names = [f'"\\"{words[name]}\\""' for name, held in table.by_name["Attribute"].parts
-             if held in ("Expression", "")]
-    names = textwrap.fill(", ".join(names), 96, break_long_words=False, break_on_hyphens=False)
-    text = "    " + names.replace("\n", "\n    ") + ",\n"
-    fill(KINDS, "\nstatic const char *const words[] = {\n", text, "};\n")
-
-
 def main():
     table = Table()
     check(table)
@@ -267,4 +256,3 @@ def main():
     write_rust(table)
     write_packed(table)
     write_text(table)
-    write_words(table)

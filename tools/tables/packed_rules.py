@@ -2,8 +2,8 @@
 JSON, the tables of both that the library prints by, and their numbers for the writer of the library
 and for the Rust crate, with the places of each for that.
 
-It puts a table of them into docs/TREE.md, and how the JSON of each begins into
-tools/library_kinds.c. It fails if the JSON of a rule has other places than its text.
+It puts a table of them into docs/TREE.md. It fails if the JSON of a rule has other places than its
+text.
 """
 import json
 import re
@@ -18,7 +18,7 @@ READS = (inputs.RULES,)
 WRITES = ("crates/wgsl_model_packed/specs/Rules.antt",
           "crates/wgsl_model_packed/specs/JsonRules.antt", "crates/wgsl_print_packed/src/rules.rt",
           "crates/wgsl_tree_packed/src/rules.rt", "bindings/rust/src/packed/rules.rs",
-          "docs/TREE.md", "tools/library_kinds.c")
+          "docs/TREE.md")
 
 RULES = Path("crates/wgsl_model_packed/rules")
 SPECS = Path("crates/wgsl_model_packed/specs/Rules.antt")
@@ -27,7 +27,6 @@ TABLE = Path("crates/wgsl_print_packed/src/rules.rt")
 NUMBERS = Path("crates/wgsl_tree_packed/src/rules.rt")
 BINDING = Path("bindings/rust/src/packed/rules.rs")
 DOCUMENT = Path("docs/TREE.md")
-TEST = Path("tools/library_kinds.c")
 BY = "Written by tools/tables/packed_rules.py from crates/wgsl_model_packed/rules"
 
 # how many columns the codes of a text have in a line
@@ -170,13 +169,6 @@ def document(rules):
     return f"\n\n| | Rule | | Printed | JSON |\n|---|---|---|---|---|\n{rows}\n"
 
 
-def starts(rules):
-    """How the JSON of each rule with a name begins, up to the first place, for C."""
-    found = dict.fromkeys(re.split("[$#%&?]", rule.json)[0] for rule in rules)
-    return "".join(f"    {quoted(it)},\n" for it in found if '"' in it and it not in
-                   ('"', '{"', '["', '{"span":'))
-
-
 def main():
     rules = read()
     written = {SPECS: definition(rules), JSON: json_definition(rules), TABLE: table(rules),
@@ -185,4 +177,3 @@ def main():
         path.write_text(text)
     fill(DOCUMENT, f"<!-- The table is {BY[0].lower()}{BY[1:]}. -->", document(rules),
          "<!-- The end of the table. -->")
-    fill(TEST, "\nstatic const char *const starts[] = {\n", starts(rules), "};\n")
