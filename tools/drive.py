@@ -185,11 +185,6 @@ class Page:
             {"type": "pointerMove", "x": x, "y": y}, down, {"type": "pause", "duration": CLICK},
             up])
 
-    def scheme(self, theme):
-        """Has the system's colours be light or dark."""
-        self.command("emulation.setForcedColorsModeThemeOverride", theme=theme,
-                     contexts=[self.context])
-
     def picture(self):
         """The page as a PNG, in base64."""
         return self.command("browsingContext.captureScreenshot", context=self.context)["data"]

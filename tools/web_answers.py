@@ -4,7 +4,10 @@ import hashlib
 import json
 import struct
 
+import crates
 from native import DONE, REFUSED
+from texts import text_of
+from web_rows import shown
 
 # the kinds of faults, as bindings/web/error.js names them
 KINDS = {1: "InvalidToken", 2: "ReservedWord", 3: "UnexpectedToken", 4: "UnexpectedEnd",
@@ -14,6 +17,13 @@ LAYOUTS = [(100, 4, 0, 0), (40, 2, 0, 1), (0, 4, 1, 2)]
 NAMES = {"none": 0, "locals": 1, "all": 2}
 UNIT = 0
 TOKEN, PLACE = struct.Struct("<3Q"), struct.Struct("<2Q")
+
+
+def sources(seed, count):
+    """The shaders, and texts that are made of a seed, those that are UTF-8."""
+    yield from (it.read_bytes() for it in sorted((crates.TOP / "examples").rglob("*.wgsl")))
+    made = (text_of(seed, number).source for number in range(count))
+    yield from (it for it in made if shown(it) is not None)
 
 
 class Places:
