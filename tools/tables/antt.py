@@ -343,6 +343,11 @@ def bound(names, text):
     return f"λ {' '.join(names)}. {text}" if names else text
 
 
+def import_of(module, names):
+    """The line that imports names of a module, if there are some."""
+    return [f"use {module}.{{{', '.join(names)}}}"] if names else []
+
+
 def enclosed(text):
     """A text in parentheses, where it has parts."""
     return f"({text})" if " " in text and text[0] not in "([{" else text

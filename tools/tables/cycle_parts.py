@@ -4,6 +4,7 @@ from the fields of such kinds."""
 import re
 from dataclasses import dataclass
 
+from antt import import_of
 from node_specs import cycle
 from node_table import TREES, snake
 from plain_trees import CONSTRUCTED, OWN, RENAMED, coded, is_apart, maker
@@ -210,8 +211,3 @@ def imports(text, cycle, modules, others):
         yield from import_of(module, found[module])
     for name in sorted(words & set(cycle.at)):
         yield f"use {cycle.at[name].declared}.{name}.{{{name}}}"
-
-
-def import_of(module, names):
-    """The line that imports names of a module, if there are some."""
-    return [f"use {module}.{{{', '.join(names)}}}"] if names else []

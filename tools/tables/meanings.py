@@ -9,7 +9,7 @@ from pathlib import Path
 
 import antt
 import inputs
-from antt import enclosed
+from antt import enclosed, import_of
 
 READS = (inputs.GRAMMAR, inputs.FACTORED, "crates/wgsl_theory_grammar/specs/Meaning.antt")
 WRITES = ("crates/wgsl_theory_grammar/specs/Meaning[CR]*.antt",)
@@ -90,42 +90,54 @@ def rule(symbol):
     return f"{symbol.removesuffix('_part')}_rule"
 
 
-def imports(body, paths):
-    """What imports the names in a body, from where the files with the rules have them."""
-    files = [antt.Module(path) for path in paths]
-    further = set(bodies(FACTORED, "FurtherValue"))
-    own = set(re.findall(r"^abbrev pub (\w+)", body, re.M))
-    # what a λ binds is not a name of the factored grammar
-    bound = {name for it in re.findall(r"λ ([^.]*)\.", body) for name in re.findall(r"\w+", it)}
-    own |= bound & (further | set(files[0].clauses))
-    used = {}
+def imports(body, own, paths):
+    """What imports the names in a body but its own, from where files have them."""
+    files, used = [antt.Module(path) for path in paths], {}
     for token in dict.fromkeys(antt.tokens(body)):
-        if token in own:
-            continue
-        for name in dict.fromkeys([token, token.partition(".")[0], f"◌{token}◌"]):
-            if name in further:
-                used.setdefault(files[0].name, set()).add(f"Further.{name}")
-                break
-            file = next((it for it in files if name in it.uses or name in it.clauses), None)
-            entries = file.uses.get(name, [(file.name, name)]) if file else []
-            for module, entry in entries:
+        for name in {token, token.partition(".")[0], f"◌{token}◌"} - own:
+            for module, entry in homes(name, files):
                 used.setdefault(module, set()).add(entry)
     for module, names in sorted(used.items()):
-        yield f"use {module}.{{{', '.join(sorted(names))}}}"
+        yield from import_of(module, sorted(names))
 
 
-def write(name, says, body, paths):
+def homes(name, files):
+    """Where a name is: as a symbol, or a further one, and as a name in one of some files, of which
+    the last are the factored and the written grammar."""
+    *_, factored, written = files
+    yield from (it for it in written.uses.get(name, []) if it[1].startswith("Symbol."))
+    if name in bodies(FACTORED, "FurtherValue"):
+        yield factored.name, f"Further.{name}"
+        return
+    for file in files:
+        if any(name == it for it, public, _ in file.signatures if public):
+            yield file.name, name
+            return
+        others = [it for it in file.uses.get(name, []) if not it[1].startswith("Symbol.")]
+        if others:
+            yield from others
+            return
+
+
+def own_names(body):
+    """The names that a body defines, and those that a λ binds, if they are grammar's too."""
+    bound = {name for it in re.findall(r"λ ([^.]*)\.", body) for name in re.findall(r"\w+", it)}
+    known = set(bodies(FACTORED, "FurtherValue")) | set(antt.Module(FACTORED).clauses)
+    return {*re.findall(r"^abbrev pub (\w+)", body, re.M), *(bound & known)}
+
+
+def write(name, says, body):
     """Writes a file."""
     body = "\n".join(body) + "\n"
     head = [f"-- Written by tools/tables/meanings.py from Written and Factored: {says}."]
-    text = "\n".join([*head, *imports(body, paths), "", body])
+    uses = imports(body, own_names(body), [BY_HAND, FACTORED, WRITTEN])
+    text = "\n".join([*head, *uses, "", body])
     (THEORY / f"{name}.antt").write_text(text)
 
 
 def main():
     """Writes which meanings follow from the rules, and all meanings."""
     found = Meanings()
-    write("MeaningCases", "which meanings do not follow", found.cases(), [FACTORED, BY_HAND])
+    write("MeaningCases", "which meanings do not follow", found.cases())
     definitions = [line for symbol in found.texts for line in (found.definition(symbol), "")]
-    write("MeaningRules", "what the further symbols mean", [*definitions, *found.meaning()],
-          [FACTORED, WRITTEN, BY_HAND])
+    write("MeaningRules", "what the further symbols mean", [*definitions, *found.meaning()])

@@ -1,6 +1,6 @@
 """Writes terms and values in a file of a theory, and the imports of the names in them."""
 import antt
-from antt import bound, enclosed, last, names_in
+from antt import bound, enclosed, import_of, last, names_in
 from rule_grammar import ByHand
 
 SYMBOLS = "Rattle.wgsl_model.specs.Grammar.Symbols"
@@ -107,9 +107,7 @@ class Names:
             if alias in named:
                 yield f"use {module} as {alias}"
         for module, names in sorted(self.imports.items()):
-            used = sorted(name for name in names if last(name) in named)
-            if used:
-                yield f"use {module}.{{{', '.join(used)}}}"
+            yield from import_of(module, sorted(it for it in names if last(it) in named))
 
 
 def record(fields):

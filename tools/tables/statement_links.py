@@ -11,7 +11,7 @@ from pathlib import Path
 import antt
 import inputs
 from antt import enclosed
-from meanings import BEFORE, FACTORED, WRITTEN, bodies
+from meanings import BEFORE, FACTORED, WRITTEN, bodies, imports
 
 READS = (inputs.FACTORED, "crates/wgsl_theory_grammar/proofs/Forms/*.antt")
 WRITES = ("crates/wgsl_theory_grammar/proofs/Forms/StatementCases.antt",
@@ -172,39 +172,11 @@ def ended_out(links):
         yield f"    go ({pattern}) = {proof}"
 
 
-def imports(body, paths):
-    """What imports the names in a body, from where other files have them."""
-    files = [antt.Module(path) for path in paths]
-    own, used = set(re.findall(r"^ *(?:pub )?(\w+) :", body, re.M)), {}
-    for token in dict.fromkeys(antt.tokens(body)):
-        for name in {token, token.partition(".")[0], f"◌{token}◌"} - own:
-            for module, entry in homes(name, files):
-                used.setdefault(module, set()).add(entry)
-    for module, names in sorted(used.items()):
-        yield f"use {module}.{{{', '.join(sorted(names))}}}"
-
-
-def homes(name, files):
-    """Where a name is: as a symbol, or a further one, and as a name in one of some files."""
-    *_, factored, written = files
-    yield from (it for it in written.uses.get(name, []) if it[1].startswith("Symbol."))
-    if name in bodies(FACTORED, "FurtherValue"):
-        yield factored.name, f"Further.{name}"
-        return
-    for file in files:
-        if any(name == it for it, public, _ in file.signatures if public):
-            yield file.name, name
-            return
-        others = [it for it in file.uses.get(name, []) if not it[1].startswith("Symbol.")]
-        if others:
-            yield from others
-            return
-
-
 def write(name, says, body, paths):
     """Writes a file."""
     head = f"-- Written by tools/tables/statement_links.py: {says}."
-    text = "\n".join([head, *imports(body, paths), "", body, ""])
+    own = set(re.findall(r"^ *(?:pub )?(\w+) :", body, re.M))
+    text = "\n".join([head, *imports(body, own, paths), "", body, ""])
     (FORMS / f"{name}.antt").write_text(text)
 
 

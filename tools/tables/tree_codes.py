@@ -7,6 +7,7 @@ from dataclasses import dataclass
 from pathlib import Path
 
 import inputs
+from antt import import_of
 from node_groups import MODULES, by_module
 from node_table import TABLE, Table, separated, snake
 from plain_trees import (
@@ -276,25 +277,22 @@ def file_text(table, what, module, made, homes):
         body.append(lines)
     text = "\n\n".join(body)
     words = set(re.findall(r"(?<![.\w])\w+", text))
-    names = [it for it in ["ℕ", "List", "[]", "◌∷◌", "codes"] if it.strip("◌") in text]
-    uses = [f"{PRELUDE}.{{{', '.join(names)}}}"] * bool(names)
-    operators = [it for it in sorted(words) if it in ("unary_operator_text", "binary_operator_text",
-                                                     "assignment_operator_text")]
-    printed = "Rattle.wgsl_model.specs.Printed.Operators"
-    uses += [f"{printed}.{{{', '.join(operators)}}}"] * bool(operators)
-    texts = [it for it in sorted(words) if it.endswith("_text") and it not in operators]
-    uses += [f"{TREES}.NamedValues.{{{', '.join(texts)}}}"] * bool(texts)
-    uses += [f"{TREES}.Spanned.{{Spanned}}"] * ("Spanned" in words)
-    uses += [f"{TREES}.Attributes.{{Attributes}}"] * ("Attributes" in words)
-    uses.append(f"{TREES}.{module} as plain")
-    names = [it for it in CODE if it in words]
-    uses.append(f"Rattle.wgsl_tree_code.specs.Code.{{{', '.join(names)}}}")
+    prelude = [it for it in ["ℕ", "List", "[]", "◌∷◌", "codes"] if it.strip("◌") in text]
+    texts = [it for it in sorted(words) if it.endswith("_text")]
+    operators = [it for it in texts if it.endswith("_operator_text")]
+    uses = [*import_of(PRELUDE, prelude),
+            *import_of("Rattle.wgsl_model.specs.Printed.Operators", operators),
+            *import_of(f"{TREES}.NamedValues", [it for it in texts if it not in operators]),
+            *(f"use {TREES}.{it}.{{{it}}}" for it in ("Spanned", "Attributes") if it in words),
+            f"use {TREES}.{module} as plain"]
+    found = {"Code": [it for it in CODE if it in words]}
     here = {it.name for it in made}
     for home in dict.fromkeys(homes.values()):
-        names = sorted(it for it in words - here if homes.get(it) == home)
-        uses += [f"Rattle.wgsl_tree_code.specs.{home}.{{{', '.join(names)}}}"] * bool(names)
+        found[home] = sorted(it for it in words - here if homes.get(it) == home)
+    for home, names in found.items():
+        uses += import_of(f"Rattle.wgsl_tree_code.specs.{home}", names)
     head = f"-- Written by tools/tables/tree_codes.py from {TABLE}: {what.lower()}."
-    return "\n".join([head, *(f"use {use}" for use in uses), "", text, ""])
+    return "\n".join([head, *uses, "", text, ""])
 
 
 def main():

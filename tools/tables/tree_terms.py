@@ -4,7 +4,7 @@ import re
 from dataclasses import dataclass
 from pathlib import Path
 
-from antt import last
+from antt import import_of, last
 from node_table import separated
 from plain_trees import CONSTRUCTED, RENAMED, is_apart
 from tree_codes import function, groups, parenthesized
@@ -106,20 +106,16 @@ def imports(text, module, homes):
     words = set(re.findall(r"(?<![.\w])\w+", text))
     names = [it for it in NAMES if it in words or (it in ("[]", "◌∷◌", "◌≡◌", "◌↔◌")
                                                   and it.strip("◌") in text)]
-    yield f"{PRELUDE}.{{{', '.join(names)}}}"
-    if "refl" in words:
-        yield "Rattle.std.proofs.Common.{refl}"
+    yield from import_of(PRELUDE, names)
+    yield from import_of("Rattle.std.proofs.Common", ["refl"] * ("refl" in words))
     changes = sorted(it for it in words if it.startswith("changed_"))
-    if changes:
-        yield f"{TREES}.Statements.{{{', '.join(changes)}}}"
-    yield f"{TREES}.{module} as plain"
+    yield from import_of(f"{TREES}.Statements", changes)
+    yield f"use {TREES}.{module} as plain"
     known = {f"Rattle.{it.replace('/', '.')}": exports(it) for it in MODULES}
     for name, home in homes.items():
         known.setdefault(home, set()).add(name)
     for home, names in known.items():
-        found = sorted(names & words)
-        if found:
-            yield f"{home}.{{{', '.join(found)}}}"
+        yield from import_of(home, sorted(names & words))
 
 
 def file_text(head, module, items, homes):
@@ -128,5 +124,4 @@ def file_text(head, module, items, homes):
     lemmas = bodies([it for it in items if it.is_lemma], "")
     text = "\n\n".join([*definitions, *lemmas])
     others = {name: home for name, home in homes.items() if name not in {it.name for it in items}}
-    uses = [f"use {it}" for it in imports(text, module, others)]
-    return "\n".join([f"-- {head}", *uses, "", text, ""])
+    return "\n".join([f"-- {head}", *imports(text, module, others), "", text, ""])
