@@ -1,9 +1,10 @@
 """Writes the functions of wgsl_tree_names that collect the names of a node, from its end to its
 start, each from what the definitions say of it, and the invariants of their loops.
 
-It reads crates/wgsl_model/nodes, the views of the crates, and Names of wgsl_model_names. The prover
-checks what it writes; the proof of a kind cites its lemma `.._before` of proofs/Blocks, if it has
-one: where a scope is more or less than a block. The names of expressions are collected by hand.
+It reads crates/wgsl_model/nodes, the views of the crates, and Names of wgsl_model_names. The proof
+of a kind cites its lemma `.._before` of proofs/Blocks, if it has one: where a scope is more or less
+than a block. The names of expressions are collected by hand. By hand, each statement would be in
+one more file.
 """
 import re
 from pathlib import Path

@@ -2,7 +2,8 @@
 
 In crates.txt the comment above a crate's line is its description, and `## NAME` begins a layer. A
 crate comes after all that it uses, so in the picture, which has the last line first, it is above
-these. The status is 1 if a crate has no description or comes before one that it uses.
+these. The status is 1 if a crate has no description or comes before one that it uses. By hand, each
+description would be in two files.
 """
 import sys
 from pathlib import Path

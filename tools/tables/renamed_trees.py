@@ -2,8 +2,9 @@
 fields of its node, and what of their proofs follows from these.
 
 It reads crates/wgsl_model/nodes, the views of the crates, and Renamed of wgsl_model_names, which
-says what keeps its name. The prover checks what it writes. Expressions are renamed by hand; the
-proof of kinds that contain each other is in renamed_cycle.py.
+says what keeps its name. Expressions are renamed by hand; the proof of kinds that contain each
+other is in renamed_cycle.py. By hand, each statement would be in one more file, in two if it
+contains others.
 """
 from pathlib import Path
 

@@ -1,7 +1,5 @@
 """Writes what reads the plain tree of each kind of node from its code, and the lemma that this
 gives back the tree.
-
-    tools/tables/tree_readers.py
 """
 import inputs
 import tree_codes

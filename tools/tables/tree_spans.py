@@ -1,7 +1,5 @@
 """Writes the lemma, for each kind of node, that its code without spans is the code of its plain
 tree without them, and what follows: when the codes of two trees are the same.
-
-    tools/tables/tree_spans.py
 """
 import inputs
 from node_table import TABLE, Table, separated, snake
