@@ -38,9 +38,8 @@ fn expected_at(alloc: Global, source: &str, error: &Error) -> Option<Vec<String>
 /// What was expected instead of a token or of the end.
 fn expected_by(kind: ErrorKind) -> Option<Vec<String>> {
     match kind {
-        ErrorKind::UnexpectedToken { expected, .. } | ErrorKind::UnexpectedEof { expected } => {
-            Some(expected)
-        }
-        _ => None,
+        ErrorKind::UnexpectedToken { expected, .. } => Some(expected),
+        ErrorKind::UnexpectedEof { expected } => Some(expected),
+        _other => None,
     }
 }
