@@ -11,6 +11,7 @@ use wgsl_span::Span;
 /// Returns the places at which a new name is written to rename what has its name at a byte offset of
 /// a text, in it or at its end: those of its declaration and of its uses, in the order of the text,
 /// which has the syntax of a module. Each use refers to what it did; otherwise nothing is renamed.
+/// It is not checked that no scope declares the new name twice, where neither is used after that.
 /// The time grows with the length of the text, if each name is declared under few conditions.
 pub fn rename(
     alloc: Global,
