@@ -32,6 +32,10 @@ impl<'a, R: Files + AllocGlobal + Clone + Drop> Store for HostOutputs<'a, R> {
         self.files.read(alloc, path)
     }
 
+    fn read_regular(&self, alloc: Global, path: &str) -> Result<Vec<u8>, StoreError> {
+        self.files.read_regular(alloc, path)
+    }
+
     fn replace(&mut self, alloc: Global, path: &str, bytes: &[u8]) -> Result<(), StoreError> {
         self.files.replace(alloc, path, bytes)
     }
