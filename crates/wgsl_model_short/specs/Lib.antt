@@ -2,3 +2,4 @@
 pub mod Spaces
 pub mod Shortest
 pub mod Shortened
+pub mod Respelled

@@ -29,7 +29,7 @@ use Rattle.wgsl_theory_short.proofs.Reading.{Tokens, no_token, one_token}
 abbrev Parts : Kind → List ℕ → List ℕ → Type 0
 Parts k w rest = (k ≡ plain TemplateArgsEnd) ⊎ PartsBefore w rest
 
-before_space : (k : Kind) (w rest : List ℕ) → IsToken k w rest → (more : List ℕ) → PartsBefore w (32 ∷ more)
+pub before_space : (k : Kind) (w rest : List ℕ) → IsToken k w rest → (more : List ℕ) → PartsBefore w (32 ∷ more)
 before_space k [] rest i more = absurd (token_starts false k [] rest i)
 before_space k (x ∷ xs) rest i more = (alone_ends 32 x xs space_alone, λ e. (refl, refl))
 
@@ -52,7 +52,7 @@ no_shape : (w : List ℕ) → Shaped (last_after start (role_in start TemplateAr
 no_shape w (is_other left x xs t) = absurd (true≢false (sym t))
 
 -- it is the same token there
-again : (k : Kind) (w rest : List ℕ) → IsToken k w rest → (more : List ℕ) → Parts k w more → IsToken k w more
+pub again : (k : Kind) (w rest : List ℕ) → IsToken k w rest → (more : List ℕ) → Parts k w more → IsToken k w more
 again k w rest i more p = token_again start k false w rest more i (λ h. go h p)
   where
     go : Shaped (last_after start (role_in start k.class false)) w → Parts k w more → PartsBefore w more
@@ -107,7 +107,7 @@ over_gap class next text = go (goes_on class (first_or_zero next))
     go true = over_blank 32 text refl
     go false = refl
 
-nothing_left : after_trivia outside [] ≡ []
+pub nothing_left : after_trivia outside [] ≡ []
 unfolding after_trivia
 nothing_left = refl
 

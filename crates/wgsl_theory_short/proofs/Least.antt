@@ -29,11 +29,11 @@ use Rattle.wgsl_theory_short.proofs.Reading.{Tokens, no_token, one_token, tokens
 -- ---- neighbours in a module
 
 -- a class may be before another
-record MayPrecede (a b : ℕ) : Type 0 where
-  no_number : is_among a numbers ≡ true → is_among b words_and_numbers ≡ true → ⊥
-  no_start : is_among a template_starts ≡ true → is_among b less_and_equal ≡ true → ⊥
+pub record MayPrecede (a b : ℕ) : Type 0 where
+  pub no_number : is_among a numbers ≡ true → is_among b words_and_numbers ≡ true → ⊥
+  pub no_start : is_among a template_starts ≡ true → is_among b less_and_equal ≡ true → ⊥
 
-abbrev MayFollow : ℕ → List Piece → Type 0
+abbrev pub MayFollow : ℕ → List Piece → Type 0
 MayFollow a [] = Unit {0}
 MayFollow a (p ∷ ps) = MayPrecede a p.class × MayFollow p.class ps
 
@@ -53,11 +53,11 @@ neighbours source t (u ∷ us) h k =
     )
 
 -- the first may be anything
-abbrev MayBegin : List Piece → Type 0
+abbrev pub MayBegin : List Piece → Type 0
 MayBegin [] = Unit {0}
 MayBegin (p ∷ ps) = MayFollow p.class ps
 
-all_neighbours : (source : List ℕ) (ts : List Token) → IsSentence written unit ts → MayBegin (token_pieces source ts)
+pub all_neighbours : (source : List ℕ) (ts : List Token) → IsSentence written unit ts → MayBegin (token_pieces source ts)
 all_neighbours source [] s = tt
 all_neighbours source (t ∷ ts) s = neighbours source t ts (numbers_apart (t ∷ ts) s) (starts_apart (t ∷ ts) s)
 
@@ -105,7 +105,7 @@ joined_least _ _ _ (one_token trivia v rest j ks ps p g r) k w i m =
     )
 
 -- all tokens of a text
-all_least : (text : List ℕ) (ks : List Kind) (ps : List Piece) → Tokens text ks ps → MayBegin ps
+pub all_least : (text : List ℕ) (ks : List Kind) (ps : List Piece) → Tokens text ks ps → MayBegin ps
     → width (joined SymSemicolon ps) ≤ width text
 all_least _ _ _ (no_token text e) m = omega arith
 all_least _ _ _ (one_token trivia v rest j ks ps p g r) m =

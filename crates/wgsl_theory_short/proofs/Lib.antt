@@ -11,3 +11,8 @@ mod Joined
 pub mod Kept
 mod TokenJoins
 pub mod Least
+mod Hexadecimal
+mod Spaced
+mod Needless
+mod NeedlessShape
+pub mod Minified

@@ -96,7 +96,7 @@ implied false b h e = absurd (true≢false (sym e))
 period_digit : (c : ℕ) → is_among c (continued_by SymPeriod) ≡ true → is_ascii_digit c ≡ true
 period_digit c m = grind (arith, nat_tests)
 
-whole_is : (w : List ℕ) (k : Kind) → number_of w ≡ Some k → (k.class == AbstractInt) ≡ true
+pub whole_is : (w : List ℕ) (k : Kind) → number_of w ≡ Some k → (k.class == AbstractInt) ≡ true
     → spells (whole_number empty) w ≡ true
 whole_is w k v e = go (spells (whole_number empty) w) refl
   where
