@@ -53,9 +53,10 @@ pub struct Minified {
     pub names: Vec<(String, String)>,
 }
 
-/// Minifies a module: gives shorter names to what it declares, and returns a text with these names
-/// than which none with the tokens of the module's print is shorter, without comments and empty
-/// items. Each use of a name refers to what it referred to before.
+/// Minifies a module: gives shorter names to what it declares, and returns a text with these names,
+/// without comments and empty items. It has the tokens of the module's print, but whole numbers are
+/// in hexadecimal if that is shorter, and a `default` that is alone in its clause has no `case`; no
+/// text with these tokens is shorter. Each use of a name refers to what it referred to before.
 ///
 /// # Errors
 ///

@@ -2,3 +2,4 @@ pub mod Marks
 pub mod Refused
 pub mod Written
 pub mod Results
+pub mod Needless

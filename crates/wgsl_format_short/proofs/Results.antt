@@ -9,8 +9,12 @@ use Rattle.wgsl_model_tidy.specs.Formatted.{unmarked}
 use Rattle.wgsl_model_tidy.specs.Syntax.{IsModuleInSyntax}
 use Rattle.wgsl_model_short.specs.Shortest.{shortest}
 use Rattle.wgsl_model_short.specs.Shortened.{IsShortest, KeepsTokens, IsLeast}
+use Rattle.wgsl_model.specs.Program.{IsUnit}
+use Rattle.wgsl_model.specs.Trees.Units.{TranslationUnit}
+use Rattle.wgsl_model_short.specs.Respelled.{minified, IsMinifiedText}
 use Rattle.wgsl_theory_short.proofs.Kept as kept
 use Rattle.wgsl_theory_short.proofs.Least as least
+use Rattle.wgsl_theory_short.proofs.Minified.{minified_text}
 
 -- a module has one token list, so the text is shortest by any that it has
 pub is_shortest : (source body text : List ℕ) (ts : List Token) (e : Ending) → body ≡ unmarked source
@@ -32,3 +36,10 @@ pub is_least : (source body text : List ℕ) → body ≡ unmarked source → Is
     → IsShortest source text → IsLeast source text
 is_least source body text b m s = subst (IsLeast source) (sym s.2)
     (least.least source s.0 (subst IsModuleInSyntax b m) s.1)
+
+-- the minified text of a printed module is so by any token list that the print has
+pub is_minified : (source text : List ℕ) (ts : List Token) (e : Ending) (u : TranslationUnit) → IsUnit source u
+    → IsTokenList source ts e → text ≡ minified source ts → IsMinifiedText source text
+is_minified source text ts e u m h t = subst (IsMinifiedText source)
+    (sym (t ∙ ap (minified source) (token_list_unique source ts m.0 e finished h m.1).0))
+    (minified_text source u m.0 m.1 m.2)

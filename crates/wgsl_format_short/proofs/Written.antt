@@ -17,7 +17,7 @@ unfolding chars
 space_chars = refl
 
 -- the characters of a part of a source
-part_chars : (source part : List ℕ) (from to : ℕ) → IsUtf8 source
+pub part_chars : (source part : List ℕ) (from to : ℕ) → IsUtf8 source
     → part ≡ slice_range source from to → chars part ≡ between (chars source) from to
 part_chars source part from to u e = ap chars e
     ∙ ap (λ bs. chars (take (to - from) (drop from bs))) (sym (encodes-chars source u))

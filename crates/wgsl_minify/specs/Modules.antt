@@ -11,8 +11,8 @@ use Rattle.wgsl_minify.specs.Hosts.{host_names}
 use Rattle.wgsl_minify.specs.Prints.{IsShortPrint}
 
 -- The source is a module. Names of it get the new names of a table, but those that a host program
--- uses and those to keep. Each use refers to what it referred to before. The text is the shortest of
--- the module with these names.
+-- uses and those to keep. Each use refers to what it referred to before. The text is the short
+-- print of the module with these names.
 pub record IsMinified (which : Which) (keep : List (List ℕ)) (source : List ℕ) (table : List (List ℕ × List ℕ))
     (text : List ℕ) : Type 0 where
   pub unit : TranslationUnit

@@ -5,12 +5,13 @@ use Rattle.wgsl_model.specs.Trees.EmptyItems.{full_unit}
 use Rattle.wgsl_model.specs.Trees.StatementsWithoutSpans.{bare_unit}
 use Rattle.wgsl_model.specs.Printed.Units.{print_unit}
 use Rattle.wgsl_model.specs.Program.{IsUnit}
-use Rattle.wgsl_model_short.specs.Shortened.{IsLeast}
+use Rattle.wgsl_model_short.specs.Respelled.{IsMinifiedText}
 
--- the text parses to the module without its empty items, ignoring spans, and no text with the
--- tokens of the module's print has fewer bytes
+-- The text parses to the module without its empty items, ignoring spans. Its tokens are those of the
+-- module's print, but for whole numbers, which are in hexadecimal if that is shorter, and for `case`
+-- before a `default` that is alone; no text with these tokens has fewer bytes.
 pub record IsShortPrint (u : TranslationUnit) (text : List ℕ) : Type 0 where
   pub again : TranslationUnit
   pub is_unit : IsUnit text again
   pub same : bare_unit again ≡ bare_unit (full_unit u)
-  pub least : IsLeast (chars (print_unit u)) text
+  pub minified : IsMinifiedText (chars (print_unit u)) text

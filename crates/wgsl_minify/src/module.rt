@@ -25,10 +25,10 @@ pub struct Minified {
     pub names: NewNames,
 }
 
-/// Minifies a module: gives shorter names to what it declares, and returns the shortest text with
-/// these names, without comments and empty items. Each use of a name refers to what it referred to
-/// before. The names of members stay, and so do those of entry points and overrides. Otherwise the
-/// error is that of `parse_str`.
+/// Minifies a module: gives shorter names to what it declares, and returns with these names what
+/// `minify_print` makes of its print, without comments and empty items. Each use of a name refers to
+/// what it referred to before. The names of members stay, and so do those of entry points and
+/// overrides. Otherwise the error is that of `parse_str`.
 pub fn minify(alloc: Global, source: &str, options: MinifyOptions<'_>) -> Result<Minified, Error>
     ensures minified { IfOk result (λ it. IsMinified (which_view options.entry.names) (texts options.entry.keep.now)
         (chars source.now) (pairs it.names) (chars (string_bytes it.text))) }

@@ -153,6 +153,7 @@ pub use Rattle.wgsl_read_rename.specs.Renamed as RenamedTexts
 -- modules minified
 pub use Rattle.wgsl_model_short.specs.Shortened
 pub use Rattle.wgsl_model_short.specs.Shortest
+pub use Rattle.wgsl_model_short.specs.Respelled
 pub use Rattle.wgsl_model_minify.specs.NewNames as Renaming
 pub use Rattle.wgsl_model_minify.specs.Renamed as RenamedNames
 pub use Rattle.wgsl_model_minify.specs.Chosen as ChosenNames

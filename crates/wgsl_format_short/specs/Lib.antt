@@ -1,0 +1,2 @@
+-- The definitions, in the order in which they are read.
+pub mod Spelled
