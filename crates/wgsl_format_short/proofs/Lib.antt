@@ -3,3 +3,4 @@ pub mod Refused
 pub mod Written
 pub mod Results
 pub mod Needless
+mod Hexadecimal

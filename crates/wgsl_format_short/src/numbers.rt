@@ -1,10 +1,10 @@
 //! Whole numbers in hexadecimal, where that is shorter.
 
-ghost use Rattle.std.specs.Prelude.{◌≡◌, ◌∷◌, List, drop, chars, IfOk};
+ghost use Rattle.std.specs.Prelude.{◌≡◌, ◌∷◌, List, drop, chars, length, nat_lt, if◌then◌else◌, string_bytes, IfOk};
 ghost use Rattle.grammar.specs.Tokens as grammar;
 ghost use Rattle.grammar.specs.Tokens.{Payload.number as number_payload};
 ghost use Rattle.wgsl_lexer.specs.TextTokens.{tokens_left};
-ghost use Rattle.wgsl_model_short.specs.Respelled.{short_text, shorter_number};
+ghost use Rattle.wgsl_model_short.specs.Respelled.{hexadecimal, short_text, shorter_number};
 ghost use Rattle.wgsl_format_short.specs.Spelled as model;
 
 use std::alloc::{AllocError, Global};
@@ -48,12 +48,28 @@ fn shorter(alloc: Global, number: i64, text: &str) -> Result<Option<String>, All
     let Ok(number) = u64::try_from(number) else {
         return Ok(None);
     };
-    let other = format!(in alloc; "0x{number:x}")?;
-    Ok(if other.len() < text.len() {
+    let other = hexadecimal(alloc, number)?;
+    Ok(keep_shorter(other, text))
+}
+
+/// A number in hexadecimal.
+fn hexadecimal(alloc: Global, number: u64) -> Result<String, AllocError>
+    ensures { IfOk result (λ text. string_bytes text ≡ hexadecimal number) }
+{
+    Ok(format!(in alloc; "0x{number:x}")?)
+}
+
+/// A text, if it has fewer bytes than another.
+fn keep_shorter(other: String, text: &str) -> Option<String>
+    ensures { model.spelled result (chars text.now)
+        ≡ (if nat_lt (length (string_bytes other)) (length text.now)
+        then chars (string_bytes other) else chars text.now) }
+{
+    if other.len() < text.len() {
         Some(other)
     } else {
         None
-    })
+    }
 }
 
 /// The other text of a token, if it has one.
