@@ -1,5 +1,5 @@
 -- A number in hexadecimal and its text, by their bytes.
-use Rattle.std.proofs.Common.{◌≡◌, ℕ, zero, suc, ◌^◌, ◌<◌, false, cond, refl, sym, ap, ◌∙◌, List, [], ◌∷◌, length, Option, String, chars, codes, arith, ℤ, pos, negsuc, nat_lt}
+use Rattle.std.proofs.Common.{◌≡◌, ℕ, zero, suc, ◌^◌, ◌<◌, false, cond, sym, ap, subst, ◌∙◌, List, [], ◌∷◌, length, Option, String, chars, codes, arith, ℤ, pos, negsuc, nat_abs, nat_lt, SFits, w64, to_z, of_z, to_z-of_z}
 use Rattle.std.specs.Global.{Global}
 use Rattle.std.specs.Int.{FitsUnsignedBits}
 use Rattle.std.specs.Fmt.{digits}
@@ -32,12 +32,20 @@ hexadecimal_ascii : (n : ℕ) → n < 2 ^ 64 → IsAscii (hexadecimal n)
 hexadecimal_ascii n h = IsAscii-append (codes "0x") (digits 16 false n) mark_ascii
     (digits_ascii (digits 16 false n) (digits_is_IsNumeral 16 false (omega arith) (omega arith) n (omega (arith, h))).0.1)
 
-pub shorter_is : (z : ℤ) (n : ℕ) (other text : List ℕ) (o : Option (String Global)) → z ≡ pos n → n < 2 ^ 64
+-- the number, where it is converted to one that is not negative
+converted : (z y : ℤ) (n : ℕ) → y ≡ z → FitsUnsignedBits 64 y × (n ≡ nat_abs y) → (z ≡ pos n) × (n < 2 ^ 64)
+converted z (pos k) n e h = (sym e ∙ ap pos (sym h.1), subst (λ m. m < 2 ^ 64) (sym h.1) h.0)
+converted z (negsuc k) n e h = absurd h.0
+
+-- the other text of a number is in hexadecimal, if that has fewer bytes
+pub shorter_is : (z : ℤ) (n : ℕ) (other text : List ℕ) (o : Option (String Global)) → SFits w64 z
+    → FitsUnsignedBits 64 (to_z w64 (of_z w64 z)) × (n ≡ nat_abs (to_z w64 (of_z w64 z)))
     → IsUtf8 other → IsUtf8 text → other ≡ hexadecimal n
     → spelled o (chars text) ≡ cond (nat_lt (length other) (length text)) (chars other) (chars text)
     → shorter_number (number z) (chars text) ≡ spelled o (chars text)
-shorter_is z n other text o e f v u q s =
-    let same : chars other ≡ hexadecimal n = ap chars q ∙ chars-IsAscii (hexadecimal n) (hexadecimal_ascii n f) in
+shorter_is z n other text o f h v u q s =
+    let is = converted z (to_z w64 (of_z w64 z)) n (to_z-of_z f) h in
+    let same : chars other ≡ hexadecimal n = ap chars q ∙ chars-IsAscii (hexadecimal n) (hexadecimal_ascii n is.1) in
     let size : width (hexadecimal n) ≡ length other = ap width (sym same) ∙ bytes_width other v in
-    ap (λ y. shorter_number (number y) (chars text)) e
-    ∙ (λ i. cond (nat_lt (size i) (bytes_width text u i)) (sym same i) (chars text)) ∙ sym s
+    ap (λ k. shorter_number (number k) (chars text)) is.0
+    ∙ (λ j. cond (nat_lt (size j) (bytes_width text u j)) (sym same j) (chars text)) ∙ sym s

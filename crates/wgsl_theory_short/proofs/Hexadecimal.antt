@@ -1,5 +1,5 @@
 -- A number in hexadecimal is spelled as the whole number that it is.
-use Rattle.std.proofs.Common.{◌≡◌, ℕ, ◌^◌, ◌<◌, ◌||◌, ◌&&◌, Bool, true, false, refl, ap, ◌∙◌, ◌*◌, ◌+◌, List, [], ◌∷◌, length, Some, arith}
+use Rattle.std.proofs.Common.{◌≡◌, ℕ, ◌^◌, ◌<◌, true, false, refl, ap, ◌∙◌, ◌*◌, ◌+◌, List, [], ◌∷◌, length, Some, arith}
 use Rattle.std.specs.Prelude.{pos}
 use Rattle.std.specs.Char.{is_ascii_hexdigit, digit_value}
 use Rattle.std.specs.Fmt.{digits}
@@ -11,14 +11,14 @@ use Rattle.grammar.specs.Tokens.{Payload.number}
 use Rattle.grammar.specs.Tables.{is_empty}
 use Rattle.wgsl_model.specs.Tokens.ClassTable.{AbstractInt}
 use Rattle.wgsl_model.specs.Tokens.Kind.{Kind}
-use Rattle.wgsl_model.specs.Tokens.Numbers.{digits_value, number_below, number_of, number_spelling, number_value, whole_number}
+use Rattle.wgsl_model.specs.Tokens.Numbers.{digits_value, number_of, number_value, whole_number}
 use Rattle.wgsl_model.specs.Tokens.Pattern.{empty, begins, begins_any, spells}
 use Rattle.wgsl_model.specs.Tokens.Raw.{kind_of_spelling, raw_at}
 use Rattle.wgsl_model.specs.Tokens.Spelling.{identifier, spelling}
 use Rattle.wgsl_model.specs.Tokens.Trivia.{outside, after_trivia}
 use Rattle.wgsl_model.proofs.Tokens.Characters.{digit_not_start}
 use Rattle.wgsl_theory_printed.proofs.Spelling.Split.{Each}
-use Rattle.wgsl_theory_printed.proofs.Spelling.Spellings.{IsSpelling, spelling_at}
+use Rattle.wgsl_theory_printed.proofs.Spelling.Spellings.{spelling_at}
 use Rattle.wgsl_theory_tidy.proofs.Kept.Readings.{IsToken, is_word}
 use Rattle.wgsl_model_short.specs.Respelled.{hexadecimal}
 

@@ -1,15 +1,14 @@
 -- The minified text of a printed module has its pieces and derives it, and none with these is shorter.
-use Rattle.std.proofs.Common.{◌≡◌, ℕ, ◌≤◌, ◌==◌, Bool, true, false, cond, refl, sym, ap, ap₂, subst, ◌∙◌, List, [], ◌∷◌, map}
+use Rattle.std.proofs.Common.{◌≡◌, ℕ, ◌≤◌, Bool, true, false, cond, refl, sym, ap, ap₂, subst, ◌∙◌, List, [], ◌∷◌, map}
 use Rattle.grammar.specs.Tokens.{Token}
 use Rattle.grammar.specs.Endings.{Ending.finished}
-use Rattle.grammar.specs.Grammar.{IsSentence, Mode.checking, Derives}
+use Rattle.grammar.specs.Grammar.{Mode.checking, Derives}
 use Rattle.grammar.proofs.Reading.Depth.{loosen}
 use Rattle.wgsl_model.specs.Tokens.ClassTable.{SymSemicolon}
 use Rattle.wgsl_model.specs.Tokens.Kind.{Kind, placed}
 use Rattle.wgsl_model.specs.Tokens.TokenList.{IsTokenList, width}
 use Rattle.wgsl_model.specs.Trees.Units.{TranslationUnit}
 use Rattle.wgsl_model.specs.Trees.StatementsWithoutSpans.{bare_unit}
-use Rattle.wgsl_model.specs.Program.{IsUnit}
 use Rattle.wgsl_model.specs.Grammar.Symbols.{Symbol.unit}
 use Rattle.wgsl_model.specs.Grammar.Written.{written}
 use Rattle.wgsl_theory_grammar.proofs.Tokens.Lists.{token_list_unique}

@@ -1,10 +1,10 @@
 -- Without the `case` before each `default` that is alone, tokens derive the same module. All are at
 -- one place, so that no span depends on which tokens there are.
-use Rattle.std.proofs.Common.{◌≡◌, ℕ, zero, suc, Bool, true, false, cond, not, ◌&&◌, ◌||◌, ◌==◌, ◌⊎◌, inl, inr, refl, sym, ap, subst, ◌∙◌, List, [], ◌∷◌, ◌++◌, ◌-◌, length, length-append, map, Option, arith}
+use Rattle.std.proofs.Common.{◌≡◌, ℕ, zero, suc, Bool, true, false, cond, not, ◌&&◌, ◌||◌, ◌==◌, inl, inr, refl, sym, ap, subst, ◌∙◌, List, [], ◌∷◌, ◌++◌, ◌-◌, length, length-append, map, Option, arith}
 use Rattle.std.proofs.lemmas.Bool.{true≢false, and_parts, eqb-true}
 use Rattle.grammar.specs.Tokens.{Token, Span, last_end, span_of, first_tokens, tokens_between, span_between}
-use Rattle.grammar.specs.Grammar.{Grammar, Grammar.empty, Grammar.token, Grammar.sequence, Grammar.choice, Grammar.mapped, Grammar.node, Grammar.checked, Grammar.symbol, Grammar.left_chain, Mode.checking, is_among, found, Chain, Chain.base, Chain.more, Means, Derives}
-use Rattle.grammar.specs.Notation.{one_token, ◌then◌, ◌or◌, ◌gives◌, ◌▹◌, optional, separated, list}
+use Rattle.grammar.specs.Grammar.{Grammar.empty, Grammar.token, Grammar.sequence, Grammar.choice, Grammar.mapped, Grammar.node, Grammar.checked, Grammar.symbol, Grammar.left_chain, Mode.checking, is_among, found, Chain, Chain.base, Chain.more, Means, Derives}
+use Rattle.grammar.specs.Notation.{one_token, ◌then◌, ◌or◌, ◌gives◌, ◌▹◌, optional, list}
 use Rattle.grammar.specs.Tables.{disjoint}
 use Rattle.grammar.proofs.Reading.Depth.{roll, unroll}
 use Rattle.grammar.proofs.Reading.Sets.{clash, not_true}

@@ -1,25 +1,25 @@
 -- The kinds that stay without each needless `case` have the shape that lets a text have tokens of
 -- these kinds.
-use Rattle.std.proofs.Common.{◌≡◌, ℕ, zero, suc, Bool, true, false, cond, ◌&&◌, ◌==◌, refl, sym, ap, subst, ◌∙◌, List, [], ◌∷◌, ◌++◌, map, not}
+use Rattle.std.proofs.Common.{◌≡◌, ℕ, zero, suc, Bool, true, false, cond, ◌==◌, refl, sym, ap, subst, ◌∙◌, List, [], ◌∷◌, ◌++◌, map}
 use Rattle.std.proofs.lemmas.Bool.{true≢false, and_parts, eqb-true}
 use Rattle.std.proofs.lemmas.List.{map-append}
 use Rattle.grammar.specs.Tokens.{Token}
-use Rattle.grammar.specs.Grammar.{Mode.checking, Derives, is_among}
+use Rattle.grammar.specs.Grammar.{Mode.checking, Derives}
 use Rattle.grammar.specs.Endings.{Ending.finished}
-use Rattle.wgsl_model.specs.Tokens.ClassTable.{SymComma, SymLessThan, SymAttr, KwCase, KwDefault}
+use Rattle.wgsl_model.specs.Tokens.ClassTable.{SymLessThan, KwCase, KwDefault}
 use Rattle.wgsl_model.specs.Tokens.Kind.{Kind}
 use Rattle.wgsl_model.specs.Tokens.TokenList.{IsTokenList}
 use Rattle.wgsl_model.specs.Trees.Units.{TranslationUnit}
 use Rattle.wgsl_model.specs.Grammar.Symbols.{Symbol.unit}
 use Rattle.wgsl_model.specs.Grammar.Written.{written}
 use Rattle.wgsl_theory_reread.specs.CanonicalUnits.{without_place}
-use Rattle.wgsl_theory_templates.proofs.Reaching.Reach.{Role, Role.keyword, Role.greater, Role.greater_stop, Role.opening, Role.closing, Role.short_circuit, Role.stop, Role.other, Role.template_start, Role.template_end, role, Place, Place.outside, Place.inside, reach_role, reach}
+use Rattle.wgsl_theory_templates.proofs.Reaching.Reach.{Role, Role.template_start, Role.template_end, role, Place, Place.outside, Place.inside, reach_role, reach}
 use Rattle.wgsl_theory_templates.proofs.Reaching.Moves.{kinds}
 use Rattle.wgsl_theory_templates.proofs.Reaching.Clear.{AllClear}
 use Rattle.wgsl_theory_templates.proofs.Reaching.ClearRules.{unit_clear, list_clear}
 use Rattle.wgsl_theory_templates.proofs.Lexed.NoStops.{NoStop, no_stops, is_stop_role}
 use Rattle.wgsl_theory_templates.proofs.Lexed.RoleClasses.{is_mark_role, word_unmarked, greater_unmarked, plain_unmarked}
-use Rattle.wgsl_theory_templates.proofs.Lexed.Shapes.{is_word_role, is_greater_role, is_plain_role, shape_end, shape_opening, shape_closing, shape_greater, shape_short_circuit, shape_plain, shape_word, shape_template, NotReached, IsSourceShape, NeverReached, none_reached, IsWrittenShape}
+use Rattle.wgsl_theory_templates.proofs.Lexed.Shapes.{is_word_role, is_greater_role, is_plain_role, shape_end, shape_opening, shape_closing, shape_greater, shape_short_circuit, shape_plain, shape_word, shape_template, IsSourceShape, NeverReached, none_reached, IsWrittenShape}
 use Rattle.wgsl_theory_templates.proofs.Lexed.SourceShape.{source_shape}
 use Rattle.wgsl_theory_templates.proofs.Changes.Nested.{clear_nested, clear_after, clear_template}
 use Rattle.wgsl_theory_templates.proofs.Changes.WrittenShape.{never_reached}

@@ -1,18 +1,16 @@
 -- Characters that are tokens one by one are the tokens of a text: with a space after each.
-use Rattle.std.proofs.Common.{◌≡◌, inr, ℕ, ◌==◌, ◌<◌, ◌^◌, Bool, true, false, cond, refl, sym, ap, subst, ◌∙◌, List, [], ◌∷◌, ◌++◌, map, Option, Some, None}
+use Rattle.std.proofs.Common.{◌≡◌, inr, ℕ, ◌==◌, ◌<◌, ◌^◌, Bool, true, false, cond, refl, sym, ap, subst, ◌∙◌, List, [], ◌∷◌, ◌++◌, map, Some, None}
 use Rattle.std.specs.Prelude.{nat_lt, pos, not}
 use Rattle.std.specs.Str.{encode_utf8_all}
-use Rattle.std.proofs.lemmas.Bool.{true≢false, eqb-true, ltb-true}
-use Rattle.grammar.specs.Tokens.{Token, Payload, Payload.nothing, Payload.name, Payload.number}
+use Rattle.std.proofs.lemmas.Bool.{true≢false, ltb-true}
+use Rattle.grammar.specs.Tokens.{Token, Payload.number}
 use Rattle.wgsl_model.specs.Tokens.ClassTable.{AbstractInt, symbols}
 use Rattle.wgsl_model.specs.Tokens.Kind.{Kind}
 use Rattle.wgsl_model.specs.Tokens.Numbers.{number_below, number_of, number_value, whole_number}
 use Rattle.wgsl_model.specs.Tokens.Pattern.{empty, spells}
 use Rattle.wgsl_model.specs.Tokens.TokenList.{width}
-use Rattle.wgsl_model.specs.Tokens.Trivia.{outside, after_trivia}
 use Rattle.wgsl_theory_grammar.proofs.Tokens.Bare.{over_blank}
 use Rattle.wgsl_theory_grammar.proofs.Tokens.Symbols.{each_passes, found_passes}
-use Rattle.wgsl_theory_printed.proofs.Spelling.Spellings.{IsSpelling}
 use Rattle.wgsl_model_tidy.specs.Kept.{unplaced}
 use Rattle.wgsl_model_tidy.specs.Pieces.{Piece, between}
 use Rattle.wgsl_theory_tidy.proofs.Kept.LaidTokens.{token_here}
