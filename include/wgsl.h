@@ -375,11 +375,12 @@ static inline uint32_t wgsl_tidy_within(size_t depth, const struct wgsl_layout *
 /* Writes the minified text of a module into the buffer and, after it, its new names: JSON with a
  * member for each name that got one, such as {"color":"a","size":"b"}. The text is in front of the
  * byte `start` of the answer. It has the tokens of the module's print, with these names, but whole
- * numbers are in hexadecimal if that is shorter, and a `default` that is alone in its clause has no
- * `case`; no text with these tokens is shorter. Comments and empty items are left out. Each use of
- * a name refers to what it referred to before. `names` is one of enum wgsl_names, and WGSL_UNKNOWN is the status for another number. The names of entry
- * points, overrides and members stay, and so do those on the lines of `keep`, which may be empty,
- * and those that may be outside of the module where `@if` leaves their declaration out.
+ * numbers are in hexadecimal if that is shorter, and a `default` that is alone in its clause has
+ * no `case`; no text with these tokens is shorter. Comments and empty items are left out. Each use
+ * of a name refers to what it referred to before. `names` is one of enum wgsl_names, and
+ * WGSL_UNKNOWN is the status for another number. The names of entry points, overrides and members
+ * stay, and so do those on the lines of `keep`, which may be empty, and those that may be outside
+ * of the module where `@if` leaves their declaration out.
  * Most results fit where the buffer is as large as the text. */
 static inline uint32_t wgsl_minify(uint32_t names, const char *keep, size_t keep_size,
                                    const char *text, size_t size, char *buffer, size_t buffer_size,

@@ -306,9 +306,22 @@ needless_clause v ns ys h i a q d =
     ∙ one_kept i.default i.rest false (ap (λ c. c == SymAttr) i.is_default)
     (no_case SymSemicolon i.default.class (map class_of i.rest) (ap (λ c. c == KwCase) i.is_default))
     ∙ ap (λ xs. i.default ∷ kept_tokens xs) (sym only.rest) in
-    let value : (CaseSelector.default_selector ∷ [], a.1.1) ≡ v = ap (λ s. (s, a.1.1)) (sym only.selectors) ∙ q in
-    (following.0, (a.1, value, ((i.default, a.1), refl, (kept_tokens d.0,
-    (ap (λ c. is_among c (KwDefault ∷ [])) i.is_default, first), following.1))))
+    let value : (CaseSelector.default_selector ∷ [], a.1.1) ≡ v = ap (λ s. (s, a.1.1)) (sym only.selectors) ∙ q in (
+      following.0,
+      (
+        a.1,
+        value,
+        (
+          (i.default, a.1),
+          refl,
+          (
+            kept_tokens d.0,
+            (ap (λ c. is_among c (KwDefault ∷ [])) i.is_default, first),
+            following.1,
+          ),
+        ),
+      ),
+    )
 
 body_stays : (v : Body) (xs ys : List Token) → Means checking Stays (with_case or alone) v xs ys
     → StaysBy (with_case or alone) v xs ys
@@ -333,13 +346,28 @@ body_stays v xs ys (inl d) h = go (is_needless SymSemicolon case.class (map clas
     go : (b : Bool) → is_needless SymSemicolon case.class (map class_of ns) ≡ b
         → AtStart ys × Means checking D (with_case or alone) v (kept_tokens xs) (kept_tokens ys)
     go true e =
-        let w = needless_clause v ns ys at.1 (needless case.class ns e) d.0 d.1 inner in
-        (w.0, inr (subst (λ us. Means checking D alone v us (kept_tokens ys))
-        (sym (ap kept_tokens d.2.2.1.1 ∙ one_kept case ns true no_at e)) w.1))
+        let w = needless_clause v ns ys at.1 (needless case.class ns e) d.0 d.1 inner in (
+          w.0,
+          inr (subst (λ us. Means checking D alone v us (kept_tokens ys))
+              (sym (ap kept_tokens d.2.2.1.1 ∙ one_kept case ns true no_at e)) w.1),
+        )
     go false e =
-        let w = stays selected refl d.0 ns ys inner at.1 in
-        (w.0, inl (d.0, d.1, ((case, d.0), refl, (kept_tokens ns,
-        (d.2.2.1.0, ap kept_tokens d.2.2.1.1 ∙ one_kept case ns false no_at e), w.1))))
+        let w = stays selected refl d.0 ns ys inner at.1 in (
+          w.0,
+          inl (
+            d.0,
+            d.1,
+            (
+              (case, d.0),
+              refl,
+              (
+                kept_tokens ns,
+                (d.2.2.1.0, ap kept_tokens d.2.2.1.1 ∙ one_kept case ns false no_at e),
+                w.1,
+              ),
+            ),
+          ),
+        )
 
 clause_stays : (v : SwitchClause) (xs ys : List Token) → Means checking Stays (written switch_clause) v xs ys
     → StaysBy (written switch_clause) v xs ys
@@ -376,10 +404,22 @@ attribute_stays : (v : Value attribute) (xs ys : List Token) → Means checking 
     → StaysBy (written attribute) v xs ys
 attribute_stays v xs ys d h = (
   following.0,
-  (ap (λ s. found checking (attribute_fault v s)) span ∙ d.0,
-  (d.1.0, ap (attribute_parts d.1.0) span ∙ d.1.1,
-  ((at, (name, p.1.1)), d.1.2.1, (name ∷ kept_tokens os, (part.1.0, whole),
-  (kept_tokens os, (part.2.1.0, refl), following.1))))),
+  (
+    ap (λ s. found checking (attribute_fault v s)) span ∙ d.0,
+    (
+      d.1.0,
+      ap (attribute_parts d.1.0) span ∙ d.1.1,
+      (
+        (at, (name, p.1.1)),
+        d.1.2.1,
+        (
+          name ∷ kept_tokens os,
+          (part.1.0, whole),
+          (kept_tokens os, (part.2.1.0, refl), following.1),
+        ),
+      ),
+    ),
+  ),
 )
   where
     p : Token × (Token × Option (List ExpressionNode))

@@ -15,7 +15,7 @@ minify_print-requires c =
 
 pub returns : goal.returns
 returns c =
-    let text = chars (string_bytes c.in_ok-minify_print.result) in
+    let text = chars (string_bytes c.in_ok-minify_print.field-0) in
     let is : c.as_str.result.now ≡ print_unit (unit_view c.args.unit.now) = search rules in
     short_print (unit_view c.args.unit.now) text c.requires
     (subst (λ printed. IsMinifiedText (chars printed) text) is c.in_ok-minify_print.ensures)
