@@ -1,5 +1,5 @@
 -- The shortest text of a print parses to the printed module.
-use Rattle.std.proofs.Common.{◌≡◌, ℕ, ◌∙◌, List}
+use Rattle.std.proofs.Common.{ℕ, ◌∙◌, List}
 use Rattle.std.specs.Str.{chars}
 use Rattle.wgsl_model.specs.Trees.Units.{TranslationUnit}
 use Rattle.wgsl_model.specs.Printed.Units.{print_unit}
