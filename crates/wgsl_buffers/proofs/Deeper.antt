@@ -18,7 +18,7 @@ pub deeper_within : (depth : ℕ) (text : List ℕ) (span : Span) → IsUtf8 tex
 deeper_within depth text span valid (ts, e, list, (before, following, t, split, same, up, over)) =
     let size = width (chars text) in
     let o = one_in_order 0 size before following t
-        (subst (λ z. AreInOrder 0 z size) split (tokens_in_order (chars text) ts e list)) in
+    (subst (λ z. AreInOrder 0 z size) split (tokens_in_order (chars text) ts e list)) in
     let start = ap (λ (s : plain.Span). s.start) same in
     let end = ap (λ (s : plain.Span). s.end) same in
     (omega (arith, o.1, start, end), omega (arith, o.2, end, bytes_width text valid))
