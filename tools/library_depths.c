@@ -133,8 +133,7 @@ static size_t nest(char *text, const char *front, size_t levels) {
 /* A formatted text may nest a few more levels deep. The place of what is too deep counts a byte
  * order mark. */
 static int check_tidied(void) {
-    static char text[1024];
-    char buffer[1024];
+    static char text[1024], buffer[1 << 19];
     size_t size = nest(text, "", 200);
     CHECK(tidy(10, text, size, buffer, sizeof buffer, &answer) == WGSL_TOO_DEEP);
     CHECK(is_answer(sizeof TOLD, 20, 21, 0, 0) && strcmp(buffer, TOLD) == 0);
