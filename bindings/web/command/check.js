@@ -2,7 +2,7 @@
 
 import { check } from '../node.js';
 import { readArguments } from './arguments.js';
-import { STDIN, FileError, filesOf, readText, refused } from './files.js';
+import { STDIN, FileError, filesOf, readRegular, refused } from './files.js';
 import { SUCCESS } from './status.js';
 
 export const HELP = `\
@@ -20,7 +20,7 @@ read, 5 out of memory, or a file nests too deep.
 `;
 
 async function checkFile(path, name) {
-  const text = await readText(path, name);
+  const text = await readRegular(path, name);
   try {
     check(text);
   } catch (error) {

@@ -61,6 +61,18 @@ export async function readText(path, name) {
   }
 }
 
+/**
+ * Returns the text of a regular file or of the standard input. What else there is is not read: a
+ * device may have no end.
+ */
+export async function readRegular(path, name) {
+  const found = path === STDIN ? undefined : await stat(path).catch(() => undefined);
+  if (found !== undefined && !found.isFile() && !found.isDirectory()) {
+    throw new FileError(FAILED, `${name}: error: not a regular file`);
+  }
+  return readText(path, name);
+}
+
 /** Replaces a file by a new one with the same permissions; what a link leads to, not the link. */
 async function replaceFile(path, text) {
   const file = await realpath(path);

@@ -2,7 +2,7 @@
 
 import { tidy } from '../node.js';
 import { oneOf, readArguments, wholeNumber } from './arguments.js';
-import { STDIN, FileError, filesOf, readText, refused, writeText } from './files.js';
+import { STDIN, FileError, filesOf, readRegular, refused, writeText } from './files.js';
 import { SUCCESS, WOULD_CHANGE } from './status.js';
 
 export const HELP = `\
@@ -54,7 +54,7 @@ function tidied(text, name, layout) {
 
 /** Formats a file, and returns whether it changes, or would. */
 async function tidyFile(path, name, layout, isCheck) {
-  const text = await readText(path, name);
+  const text = await readRegular(path, name);
   const formatted = tidied(text, name, layout);
   const isChanged = formatted !== text;
   if (isCheck) {

@@ -21,7 +21,7 @@ import { fileOf } from './package.js';
 const PROGRAM = fileURLToPath(fileOf('bin/centrelilac.js'));
 const programs = JSON.parse(readFileSync(`${process.env.ROWS}/programs.json`, 'utf8'));
 /** What only the native programs have, and messages of theirs. */
-const OTHER = ['--diff', '--chekc', '--version'];
+const OTHER = ['--diff', '--chekc', '--version', '-V'];
 
 let folder;
 
@@ -65,7 +65,10 @@ function isHeld(row) {
   const isNear = args.some((it) => /^(tabs|two|eight|wide)\//.test(it));
   const isWrong = wantedOf(row, 'status')[0] === '2';
   const isFault = isFilter && wantedOf(row, 'status')[0] !== '0';
-  return !isNear && !isWrong && !isFault && !args.some((it) => OTHER.includes(it));
+  // the place of what is not UTF-8 is not named
+  const hasBytes = wantedOf(row, 'errors').some((it) => it.includes('not UTF-8'));
+  const isOther = hasBytes || args.some((it) => OTHER.includes(it));
+  return !isNear && !isWrong && !isFault && !isOther;
 }
 
 for (const [command, all] of Object.entries(programs)) {
