@@ -15,7 +15,7 @@ use Rattle.wgsl_files.specs.declared.status.Status.TheVariants as status
 
 -- how many levels deep the text of a file may nest
 abbrev pub levels : ℕ
-levels = 4000
+levels = 2000
 
 -- this is what follows the name of a file in the message where its text nests deeper
 abbrev pub IsToldDeeper : List ℕ → List ℕ → Type 0

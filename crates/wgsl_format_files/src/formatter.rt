@@ -12,9 +12,9 @@ use wgsl_files::{Format, FormatError, Refusal, Status};
 use wgsl_format::{Layout, deeper_in_file, tidy_within, unmarked, with_expected};
 use wgsl_report::{error_in_file, undecoded_in_file};
 
-/// How many levels deep a module may nest: a level takes at most 1,300 bytes of a stack of 8 MB, of
-/// which a third is spare.
-const DEPTH: usize = 4_000;
+/// How many levels deep a module may nest, so that a stack of 8 MB has room for all that is
+/// accepted, which may be a few times as deep where a level takes few calls.
+const DEPTH: usize = 2_000;
 
 /// The formatter of `wgsltidy` for files: a module becomes its formatted text by a layout. The
 /// message of a refusal is what follows the name of the file: the place and the error.
